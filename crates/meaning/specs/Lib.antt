@@ -1,0 +1,3 @@
+pub mod Domain
+pub mod Values
+pub mod Rules
