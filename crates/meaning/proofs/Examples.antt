@@ -1,0 +1,42 @@
+-- T1 to T12: the quick check computes each outcome, so each is the one that answers.
+use mathlib.Core.Path.{_≡_, refl}
+use mathlib.Core.Bool.{true}
+use mathlib.Core.Logic.{inl, inr}
+use mathlib.Core.List.{List, [], _∷_}
+use Rattle.meaning.specs.Sets.{In, every, any}
+use Rattle.meaning.specs.Rules.{predicate}
+use Rattle.meaning.specs.Values.{same-number, same-bytes, same-value, bytes-before, compare-numbers, compare-names, compare-values, operate-numbers, operate-values, values, in-range}
+use Rattle.meaning.specs.Safety.{in-term, in-side, in-atom, positives, in-positives, term-bound, side-bound, atom-bound, literal-bound, head-bound, when, else, gain-left, gain, next-gain, with, scan, equations, bound-after, bound, safe}
+use Rattle.meaning.specs.Instances.{same-sign, same-predicate, same-arguments, same-fact, member, value, instance, side-value, compares, true-in, head-true}
+use Rattle.meaning.specs.Matchings.{value?, operate?, side?}
+use Rattle.meaning.specs.Outcomes.{Answers}
+use Rattle.meaning.specs.Ascii.{last-bytes, ascii}
+use Rattle.meaning.specs.Examples.{Example, examples}
+use Rattle.meaning.specs.Graph.{fires, level, agree, least, rounds}
+use Rattle.meaning.specs.Matcher.{bind, then, match-variable, match-term, match-arguments, match-atom, place, onward, walk, match-all, set-to, complete, total, choose, choices}
+use Rattle.meaning.specs.Quick.{find, found-at, seek, breaks, broken, unfit, side-overflows, literal-overflows, overflows, overflow, edge-of, rule-edges, edges, judge, quick, settle, outcome}
+use Rattle.meaning.proofs.Values.{value-laws}
+use Rattle.meaning.proofs.Settled.{settled-outcome}
+
+-- to unfold this is to unfold all that the check computes with
+opened : Unit {0}
+unfolding every any predicate same-number same-bytes same-value bytes-before compare-numbers compare-names compare-values operate-numbers operate-values in-range in-term in-side in-atom positives in-positives term-bound side-bound atom-bound literal-bound head-bound when else gain-left gain next-gain with scan equations bound-after bound safe same-sign same-predicate same-arguments same-fact member value instance side-value compares true-in head-true value? operate? side? last-bytes ascii fires level agree least rounds bind then match-variable match-term match-arguments match-atom place onward walk match-all set-to complete total choose choices find found-at seek breaks broken unfit side-overflows literal-overflows overflows overflow edge-of rule-edges edges judge quick settle outcome
+opened = tt
+
+-- the rules are safe, and the quick check computes the outcome
+abbrev Computed : List Example → Type 0
+Computed [] = Unit {0}
+Computed (e ∷ es) = ((every safe (e .program) ≡ true) × (outcome values in-range (e .program) (e .candidate) ≡ e .outcome)) × Computed es
+
+computed : Computed examples
+unfolding opened
+computed = ((refl, refl), ((refl, refl), ((refl, refl), ((refl, refl), ((refl, refl), ((refl, refl), ((refl, refl), ((refl, refl), ((refl, refl), ((refl, refl), ((refl, refl), ((refl, refl), tt))))))))))))
+
+answered : (l : List Example) → Computed l → (e : Example) → In e l → Answers values in-range (e .program) (e .candidate) (e .outcome)
+answered [] r e m = absurd m
+answered (x ∷ xs) r e (inl p) = rw p (settled-outcome values value-laws in-range (x .program) (x .candidate) (r .0 .0) (x .outcome) .1 (r .0 .1))
+answered (x ∷ xs) r e (inr m) = answered xs (r .1) e m
+
+-- each of the twelve has the outcome that document 01 states
+pub twelve : (e : Example) → In e examples → Answers values in-range (e .program) (e .candidate) (e .outcome)
+twelve e m = answered examples computed e m

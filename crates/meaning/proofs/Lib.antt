@@ -1,0 +1,16 @@
+pub mod Booleans
+pub mod Sets
+pub mod Facts
+pub mod Safety
+pub mod Bodies
+pub mod Positions
+pub mod Matching
+pub mod Choices
+pub mod First
+pub mod Graph
+pub mod Reduct
+pub mod Rounds
+pub mod Settled
+pub mod Values
+pub mod Herbrand
+pub mod Examples
