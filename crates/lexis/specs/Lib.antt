@@ -1,0 +1,11 @@
+-- In the order to read them in.
+pub mod Class
+pub mod Run
+pub mod Gap
+pub mod Number
+pub mod Kind
+pub mod Spelling
+pub mod Spells
+pub mod Longest
+pub mod Token
+pub mod Tokens

@@ -1,0 +1,27 @@
+-- Runs: the bytes at the start of a text that are of one sort.
+use Prim.Native.Nat.{ℕ, suc}
+use mathlib.Core.Bool.{Bool, cond, not, _||_}
+use mathlib.Core.List.{List, [], _∷_}
+use lib.Dec.{eqb}
+use Rattle.lexis.specs.declared.run.Run.{Run}
+use Rattle.lexis.specs.declared.run.Run.the-variants.{Blanks, Line, Word, Digits}
+use Rattle.lexis.specs.Class.{classOf, isWord, isDigit}
+
+-- space, tab, newline
+unfoldable pub isBlank : ℕ → Bool
+isBlank b = eqb b 32 || (eqb b 9 || eqb b 10)
+
+-- every byte but a newline
+unfoldable pub inLine : ℕ → Bool
+inLine b = not (eqb b 10)
+
+abbrev pub goesOn : Run → ℕ → Bool
+goesOn Blanks b = isBlank b
+goesOn Line b = inLine b
+goesOn Word b = isWord (classOf b)
+goesOn Digits b = isDigit (classOf b)
+
+-- how many elements, from the first on, pass a test
+unfoldable pub prefixLen : (ℕ → Bool) → List ℕ → ℕ
+prefixLen p [] = 0
+prefixLen p (b ∷ rest) = cond (p b) (suc (prefixLen p rest)) 0
