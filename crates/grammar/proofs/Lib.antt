@@ -1,0 +1,16 @@
+pub mod Moves
+pub mod Sound
+pub mod Begins
+pub mod Complete
+pub mod Theorems
+pub mod Computing
+pub mod Examples
+pub mod Numbers
+pub mod Steps
+pub mod Variables
+pub mod Facts
+pub mod Plainer
+pub mod PlainForm
+pub mod Apart
+pub mod PlainTheorems
+pub mod Walks

@@ -1,0 +1,120 @@
+-- Laws about the variables that are met: they depend on the tokens alone, and a facts line has none.
+use mathlib.Core.Path.{_≡_, refl, sym as inv, ap, _∙_}
+use mathlib.Core.Bool.{Bool, true, false, cond}
+use mathlib.Core.Option.{Option, none, some}
+use mathlib.Core.List.{[], _∷_, _++_}
+use Prim.Native.Nat.{suc, _≤_, _<_}
+use native.Mathlib.Omega.{arith}
+use lib.ListN.{length}
+use Rattle.reading.specs.Reading.{_▹_, tokens, seen}
+use Rattle.reading.proofs.Lists.{tokens-append}
+use Rattle.meaning.specs.Rules.{Bytes}
+use Rattle.meaning.specs.Values.{same-bytes}
+use Rattle.grammar.specs.Tokens.{closing, comma}
+use Rattle.grammar.specs.Trees.{Sequence, empty, _then_, count, Term, name, variable, number, negative, anonymous, Arguments, bare, parentheses, arguments, Atom, atom, Literal, positive, negated, compared, computed}
+use Rattle.grammar.specs.Spelling.{Mark, Spelling, mere, with-commas, spell-term, spell-argument, spell-arguments, spell-signed, spell-atom, spell-compared, spell-literal}
+use Rattle.grammar.specs.Variables.{Variables, number-of, meet-symbol, meet, met}
+use Rattle.grammar.specs.Sizes.{language}
+
+pub met-append : (vs : Variables) (l m : Spelling) → met vs (l ++ m) ≡ met (met vs l) m
+unfolding met
+met-append vs [] m = refl
+met-append vs (p ∷ l) m = met-append (meet vs (p .token)) l m
+
+-- what a reading remembers is the variables met
+pub met-seen : (ground : Bool) (vs : Variables) (ps : Spelling) → seen (language ground) vs (tokens ps) ≡ met vs ps
+unfolding met tokens seen
+met-seen ground vs [] = refl
+met-seen ground vs (p ∷ ps) = met-seen ground (meet vs (p .token)) ps
+
+pub met-tokens : (vs : Variables) (l m : Spelling) → tokens l ≡ tokens m → met vs l ≡ met vs m
+met-tokens vs l m e = inv (met-seen false vs l) ∙ ap (seen (language false) vs) e ∙ met-seen false vs m
+
+-- ---- a tree's tokens do not depend on what begins at the first
+
+signed-tokens : (m m′ : Mark) (s : Bool) (b : Bytes) → tokens (spell-signed m s b) ≡ tokens (spell-signed m′ s b)
+unfolding tokens spell-signed
+signed-tokens m m′ true b = refl
+signed-tokens m m′ false b = refl
+
+module _ {ground : Bool} (m m′ : Mark) where
+  term-tokens : (t : Term ground) → tokens (spell-term m t) ≡ tokens (spell-term m′ t)
+  unfolding tokens spell-term
+  term-tokens (name b) = refl
+  term-tokens (variable u b) = refl
+  term-tokens (number n) = refl
+  term-tokens (negative n) = refl
+  term-tokens (anonymous u) = refl
+
+  atom-tokens : (x : Atom ground) → tokens (spell-atom m x) ≡ tokens (spell-atom m′ x)
+  unfolding spell-atom
+  atom-tokens (atom s b xs) = rw (tokens-append (spell-signed m s b), tokens-append (spell-signed m′ s b), signed-tokens m m′ s b)
+
+  literal-tokens : (l : Literal ground) → tokens (spell-literal m l) ≡ tokens (spell-literal m′ l)
+  unfolding tokens spell-literal spell-compared
+  literal-tokens (positive x) = atom-tokens x
+  literal-tokens (negated x) = refl
+  literal-tokens (compared t r u) = rw (tokens-append (spell-term m t), tokens-append (spell-term m′ t), term-tokens t)
+  literal-tokens (computed t r u o v) = simp (tokens-append, term-tokens t)
+
+  pub met-term : (vs : Variables) (t : Term ground) → met vs (spell-term m t) ≡ met vs (spell-term m′ t)
+  met-term vs t = met-tokens vs _ _ (term-tokens t)
+
+  pub met-atom : (vs : Variables) (x : Atom ground) → met vs (spell-atom m x) ≡ met vs (spell-atom m′ x)
+  met-atom vs x = met-tokens vs _ _ (atom-tokens x)
+
+  pub met-literal : (vs : Variables) (l : Literal ground) → met vs (spell-literal m l) ≡ met vs (spell-literal m′ l)
+  met-literal vs l = met-tokens vs _ _ (literal-tokens l)
+
+-- ---- no variable is met in a sign and a name, nor in a ground atom
+
+pub met-signed : (vs : Variables) (m : Mark) (s : Bool) (b : Bytes) → met vs (spell-signed m s b) ≡ vs
+unfolding met meet meet-symbol spell-signed
+met-signed vs m true b = refl
+met-signed vs m false b = refl
+
+pub met-ground-term : (vs : Variables) (m : Mark) (t : Term true) → met vs (spell-term m t) ≡ vs
+unfolding met meet meet-symbol spell-term
+met-ground-term vs m (name b) = refl
+met-ground-term vs m (variable u b) = absurd u
+met-ground-term vs m (number n) = refl
+met-ground-term vs m (negative n) = refl
+met-ground-term vs m (anonymous u) = absurd u
+
+met-ground-terms : (vs : Variables) (ts : Sequence (Term true)) → met vs (with-commas spell-argument ts) ≡ vs
+unfolding met meet meet-symbol with-commas
+met-ground-terms vs empty = refl
+met-ground-terms vs (ts then t) = rw (met-append vs (with-commas spell-argument ts ++ spell-argument (suc (count ts)) t) (mere comma ∷ []), met-append vs (with-commas spell-argument ts), met-ground-terms vs ts, met-ground-term vs)
+
+met-ground-arguments : (vs : Variables) (xs : Arguments true) → met vs (spell-arguments xs) ≡ vs
+unfolding met meet meet-symbol spell-arguments
+met-ground-arguments vs bare = refl
+met-ground-arguments vs parentheses = refl
+met-ground-arguments vs (arguments ts t) = rw (met-append vs (with-commas spell-argument ts ++ spell-argument (suc (count ts)) t) (mere closing ∷ []), met-append vs (with-commas spell-argument ts), met-ground-terms vs ts, met-ground-term vs)
+
+pub met-ground-atom : (vs : Variables) (m : Mark) (x : Atom true) → met vs (spell-atom m x) ≡ vs
+unfolding spell-atom
+met-ground-atom vs m (atom s b xs) = rw (met-append vs (spell-signed m s b), met-signed vs m s b, met-ground-arguments vs xs)
+
+-- ---- numbers
+
+pub number-at-most : (b : Bytes) (vs : Variables) → number-of b vs ≤ length vs
+unfolding number-of
+number-at-most b [] = omega arith
+number-at-most b (none ∷ vs) = let h = number-at-most b vs in omega arith
+number-at-most b (some c ∷ vs) = go (same-bytes b c) (number-at-most b vs)
+  where
+    go : (e : Bool) → number-of b vs ≤ length vs → cond e 0 (suc (number-of b vs)) ≤ suc (length vs)
+    go true h = omega arith
+    go false h = omega arith
+
+-- a variable keeps its number as more are met
+pub number-kept : (b : Bytes) (vs : Variables) (v : Option Bytes) → number-of b vs < length vs → number-of b (vs ▹ v) ≡ number-of b vs
+unfolding number-of
+number-kept b [] v h = absurd (omega arith)
+number-kept b (none ∷ vs) v h = ap suc (number-kept b vs v (omega arith))
+number-kept b (some c ∷ vs) v h = go (same-bytes b c) h (number-kept b vs v)
+  where
+    go : (e : Bool) → cond e 0 (suc (number-of b vs)) < suc (length vs) → (number-of b vs < length vs → number-of b (vs ▹ v) ≡ number-of b vs) → cond e 0 (suc (number-of b (vs ▹ v))) ≡ cond e 0 (suc (number-of b vs))
+    go true k rec = refl
+    go false k rec = ap suc (rec (omega arith))

@@ -1,0 +1,14 @@
+pub mod Tokens
+pub mod Trees
+pub mod Spelling
+pub mod Variables
+pub mod Sizes
+pub mod Abstraction
+pub mod PlainForm
+pub mod Writing
+pub mod Example
+pub mod Words
+pub mod Examples
+pub mod Moves
+pub mod States
+pub mod Machine

@@ -1,0 +1,5 @@
+pub mod Lists
+pub mod Traces
+pub mod Walks
+pub mod Lawful
+pub mod Theorems
