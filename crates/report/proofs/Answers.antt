@@ -1,0 +1,68 @@
+-- Every output has an answer, found by the tests on its lines.
+use Prim.Native.Nat.{ℕ}
+use mathlib.Core.Path.{_≡_, refl, sym, ap, _∙_}
+use mathlib.Core.Bool.{Bool, true, false, true≢false}
+use mathlib.Core.List.{List, [], _∷_}
+use Rattle.lexis.specs.declared.Place.{Place}
+use Rattle.lexis.specs.Tokens.{part}
+use Rattle.report.specs.declared.word.Word.{Word}
+use Rattle.report.specs.declared.word.Word.the-variants.{Answer, Inconsistent, Unknown}
+use Rattle.report.specs.declared.around.Found.{Found}
+use Rattle.report.specs.declared.around.Found.the-variants.{Nothing, Line}
+use Rattle.report.specs.declared.Report.{Report}
+use Rattle.report.specs.Lines.{lines, linesFrom}
+use Rattle.report.specs.Around.{isIdle, AllIdle, First, OutOfPlace, none, some}
+use Rattle.report.specs.Word.{spelling, startsWith}
+use Rattle.report.specs.Report.{refused, Says, endOf, reported, Reported, missing, stray, says}
+
+-- ---- the first line that may not stand around the report, or none
+
+pub data Firsts (text : List ℕ) (ls : List Place) : Type 0 where
+  all-idle : AllIdle text ls → Firsts text ls
+  first : (l : Place) (behind : List Place) → First text ls l behind → Firsts text ls
+
+unfoldable firsts-more : (text : List ℕ) (l : Place) (ls : List Place) (t : Bool) → isIdle (part text l) ≡ t → Firsts text ls → Firsts text (l ∷ ls)
+firsts-more text l ls true e (all-idle a) = all-idle (e, a)
+firsts-more text l ls true e (first m behind f) =
+    first m behind (record { before = l ∷ f .before; split = ap (λ (ms : List Place). l ∷ ms) (f .split); idle = (e, f .idle); other = f .other })
+firsts-more text l ls false e x = first l ls (record { before = []; split = refl; idle = tt; other = e })
+
+unfoldable firsts : (text : List ℕ) (ls : List Place) → Firsts text ls
+firsts text [] = all-idle tt
+firsts text (l ∷ ls) = firsts-more text l ls (isIdle (part text l)) refl (firsts text ls)
+
+unfoldable place-of : (text : List ℕ) (at : ℕ) → Firsts text (linesFrom text at) → (f : Found) × OutOfPlace text at f
+place-of text at (all-idle a) = (Nothing, none a)
+place-of text at (first l behind f) = (Line l, some l behind f)
+
+unfoldable pub out-of-place-of : (text : List ℕ) (at : ℕ) → (f : Found) × OutOfPlace text at f
+unfolding firsts-more firsts place-of
+out-of-place-of text at = place-of text at (firsts text (linesFrom text at))
+
+-- ---- the word that it starts with, or none
+
+module _ (text : List ℕ) (l : Place) (behind : List Place) (f : First text (lines text) l behind) where
+  abbrev test : Word → Bool
+  test w = startsWith (spelling w) (part text l)
+
+  silent : (w : Word) → test w ≡ false → Says text l w → ⊥
+  silent w e s = true≢false (sym s ∙ e)
+
+  pub none-said : test Answer ≡ false → test Inconsistent ≡ false → test Unknown ≡ false → (w : Word) → Says text l w → ⊥
+  none-said a i u Answer = silent Answer a
+  none-said a i u Inconsistent = silent Inconsistent i
+  none-said a i u Unknown = silent Unknown u
+
+  unfoldable by-word : (a i u : Bool) → test Answer ≡ a → test Inconsistent ≡ i → test Unknown ≡ u → (r : Report) × Reported text r
+  by-word true i u ea ei eu = (reported text Answer behind, says l behind f Answer ea)
+  by-word false true u ea ei eu = (reported text Inconsistent behind, says l behind f Inconsistent ei)
+  by-word false false true ea ei eu = (reported text Unknown behind, says l behind f Unknown eu)
+  by-word false false false ea ei eu = (refused l, stray l behind f (none-said ea ei eu))
+
+unfoldable by-first : (text : List ℕ) → Firsts text (lines text) → (r : Report) × Reported text r
+by-first text (all-idle a) = (refused (endOf text), missing a)
+by-first text (first l behind f) = by-word text l behind f (test text l behind f Answer) (test text l behind f Inconsistent) (test text l behind f Unknown) refl refl refl
+
+unfoldable pub report-of : (text : List ℕ) → (r : Report) × Reported text r
+unfolding firsts-more firsts by-word by-first
+report-of text = by-first text (firsts text (lines text))

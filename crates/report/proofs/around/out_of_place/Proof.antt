@@ -1,0 +1,89 @@
+-- `around::out_of_place` meets its contract. The invariant: what is first out of place from here on is so from the start on.
+-- The measure is what is left of the text: the next line begins further on. Assumes nothing.
+use Prim.Native.Nat.{_-_}
+use mathlib.Core.Path.{sym, _∙_}
+use lib.ListN.{length}
+use borrow.Author.Tests.{ltb-true, ltb-false, not-true, not-false}
+use borrow.Author.Needs.{needs}
+use Rattle.report.specs.declared.around.Found.{Found}
+use Rattle.report.specs.Around.{OutOfPlace}
+use Rattle.report.proofs.LineList.{end-inside, less-left}
+use Rattle.report.proofs.Passing.{none-left, stop-here, pass-on}
+use Rattle.report.proofs.around.out_of_place.Statement.{statement}
+use Rattle.report.proofs.around.out_of_place.Tie as tie
+
+abbrev Inv-loop : tie.InvT-loop
+Inv-loop text at start₀ start = (r : Found) → OutOfPlace text start r → OutOfPlace text at r
+
+abbrev μ-loop : tie.MeasureT-loop
+μ-loop text at start₀ start = length text - start
+
+loop-holds : tie.Need-loop-holds Inv-loop μ-loop
+loop-holds c = λ r h. h
+
+has-line-requires : tie.Need-has-line-requires Inv-loop μ-loop
+has-line-requires c κs = search needs
+
+line-end-requires : tie.Need-line-end-requires Inv-loop μ-loop
+line-end-requires c κs = search needs
+
+sub-is-idle : tie.Need-sub-is-idle Inv-loop μ-loop
+sub-is-idle c = search needs
+
+part-is-idle-start : tie.Need-part-is-idle-start Inv-loop μ-loop
+part-is-idle-start c = search needs
+
+part-is-idle-end : tie.Need-part-is-idle-end Inv-loop μ-loop
+part-is-idle-end c =
+    let here = ltb-true _ _ (sym (c .before .before .has-line .ensures) ∙ c .before .if1 .taken) in
+    let inside = end-inside (c .before .before .before .before .before .args .text .now) (c .before .before .before .loop .start) here in
+    search needs
+
+is-idle-requires : tie.Need-is-idle-requires Inv-loop μ-loop
+is-idle-requires c κs = search needs
+
+sub-len : tie.Need-sub-len Inv-loop μ-loop
+sub-len c = search needs
+
+returns : tie.Need-returns Inv-loop μ-loop
+returns c =
+    let here = ltb-true _ _ (sym (c .before .before .before .before .before .has-line .ensures) ∙ c .before .before .before .before .if1 .taken) in
+    let other = sym (c .before .is-idle .ensures) ∙ not-true _ (c .if2 .taken) in
+    c .before .before .before .before .before .before .loop .inv _ (stop-here _ _ _ (c .before .before .before .line-end .ensures) here other)
+
+next-line-requires : tie.Need-next-line-requires Inv-loop μ-loop
+next-line-requires c κs = search needs
+
+loop-less : tie.Need-loop-less Inv-loop μ-loop
+loop-less c =
+    let here = ltb-true _ _ (sym (c .before .before .before .before .before .before .has-line .ensures) ∙ c .before .before .before .before .before .if1 .taken) in
+    less-left _ _ here _ (c .before .before .before .before .line-end .ensures) _ (c .next-line .ensures)
+
+loop-again : tie.Need-loop-again Inv-loop μ-loop
+loop-again c =
+    let here = ltb-true _ _ (sym (c .before .before .before .before .before .before .has-line .ensures) ∙ c .before .before .before .before .before .if1 .taken) in
+    let idle = sym (c .before .before .is-idle .ensures) ∙ not-false _ (c .before .if2 .left) in
+    λ r h. c .before .before .before .before .before .before .before .loop .inv r (pass-on _ _ _ (c .before .before .before .before .line-end .ensures) here idle (rw (c .next-line .ensures) at h))
+
+returns-2 : tie.Need-returns-2 Inv-loop μ-loop
+returns-2 c = c .before .before .loop .inv _ (none-left _ _ (ltb-false _ _ (sym (c .before .has-line .ensures) ∙ c .if1 .left)))
+
+pub out-of-place-spec : {M : Type 1} → statement M
+out-of-place-spec =
+    tie.close
+    (tie.spec
+    Inv-loop
+    μ-loop
+    loop-holds
+    has-line-requires
+    line-end-requires
+    sub-is-idle
+    part-is-idle-start
+    part-is-idle-end
+    is-idle-requires
+    sub-len
+    returns
+    next-line-requires
+    loop-less
+    loop-again
+    returns-2)

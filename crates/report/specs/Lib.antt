@@ -1,0 +1,5 @@
+-- In the order to read them in.
+pub mod Lines
+pub mod Around
+pub mod Word
+pub mod Report

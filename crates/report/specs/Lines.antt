@@ -1,0 +1,75 @@
+-- The lines of a text, each a place in it.
+use Prim.Native.Nat.{ℕ, suc, _+_, _≤_, _<_}
+use mathlib.Core.Path.{_≡_}
+use mathlib.Core.Bool.{Bool, true, cond}
+use mathlib.Core.List.{List, [], _∷_, _++_}
+use lib.Dec.{eqb, ltb}
+use lib.ListN.{length, drop}
+use Rattle.lexis.specs.declared.Place.{Place}
+use Rattle.lexis.specs.Run.{inLine, prefixLen}
+use Rattle.lexis.specs.Spelling.{every}
+use Rattle.lexis.specs.Tokens.{part}
+
+abbrev pub placeOf : ℕ → ℕ → Place
+placeOf start len = record { start = start; len = len }
+
+-- a byte before lines belongs to the first of them, or is one of its own
+abbrev pub longer : ℕ → List Place → List Place
+longer at [] = placeOf at 1 ∷ []
+longer at (l ∷ ls) = placeOf at (suc (l .len)) ∷ ls
+
+-- the lines of bytes that stand in a text from a place on: a line ends before a newline or at the end of the bytes,
+-- and nothing after a last newline is no line
+unfoldable pub linesAt : ℕ → List ℕ → List Place
+linesAt at [] = []
+linesAt at (b ∷ rest) = cond (eqb b 10) (placeOf at 0 ∷ linesAt (suc at) rest) (longer at (linesAt (suc at) rest))
+
+-- the lines of a text from a place on, and all of them
+abbrev pub linesFrom : List ℕ → ℕ → List Place
+linesFrom text at = linesAt at (drop at text)
+
+abbrev pub lines : List ℕ → List Place
+lines text = linesFrom text 0
+
+-- ---- line by line (`lines-none`, `lines-more`)
+
+-- there is a line from a place on
+abbrev pub hasLine : List ℕ → ℕ → Bool
+hasLine text at = ltb at (length text)
+
+-- the end of the line that starts at a place: before a newline, or at the text's end
+abbrev pub lineEnd : List ℕ → ℕ → ℕ
+lineEnd text at = at + prefixLen inLine (drop at text)
+
+-- where the line behind one that ends at a place begins
+unfoldable pub nextLine : List ℕ → ℕ → ℕ
+nextLine text end = cond (ltb end (length text)) (end + 1) (length text)
+
+-- ---- what makes places the lines of a text (`lines-are`): no other places do (`lines-only`)
+
+-- the first starts at a place, each other behind the newline of the one before it, and all lie inside the text
+abbrev pub InOrder : ℕ → ℕ → List Place → Type 0
+InOrder end at [] = Unit {0}
+InOrder end at (l ∷ ls) = (l .start ≡ at) × (at < end) × (at + l .len ≤ end) × InOrder end (suc (at + l .len)) ls
+
+-- none of them has a newline
+abbrev pub Unbroken : List ℕ → List Place → Type 0
+Unbroken text [] = Unit {0}
+Unbroken text (l ∷ ls) = (every inLine (part text l) ≡ true) × Unbroken text ls
+
+-- their bytes, with a newline behind each
+abbrev pub joined : List ℕ → List Place → List ℕ
+joined text [] = []
+joined text (l ∷ ls) = part text l ++ (10 ∷ joined text ls)
+
+-- bytes with a newline at their end: one more where the last is none
+abbrev pub ended : List ℕ → List ℕ
+ended [] = []
+ended (b ∷ []) = b ∷ cond (eqb b 10) [] (10 ∷ [])
+ended (b ∷ c ∷ rest) = b ∷ ended (c ∷ rest)
+
+-- from a place on, where `bytes` stand
+pub record AreLines (text : List ℕ) (at : ℕ) (bytes : List ℕ) (ls : List Place) : Type 0 where
+  pub in-order : InOrder (length text) at ls
+  pub unbroken : Unbroken text ls
+  pub whole : joined text ls ≡ ended bytes
