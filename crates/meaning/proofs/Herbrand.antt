@@ -21,7 +21,6 @@ use Rattle.meaning.proofs.Facts.{instance-predicate, instance-arguments
 use Rattle.meaning.proofs.Safety.{bound-in-term, bound-in-side, scan-exact}
 use Rattle.meaning.proofs.Bodies.{body-true-is}
 use Rattle.meaning.proofs.Choices.{equal-side, true-in-candidate}
-use Rattle.meaning.proofs.First.{safe-head, safe-body}
 use Rattle.meaning.proofs.Rounds.{levels, R, last-inside, last-satisfies, level-Level}
 
 -- ---- constants and predicates of a rule are the program's
@@ -79,6 +78,17 @@ module _ {U : Type 0} (B : ℕ → Bool) where
   bound-in-head none h x k = absurd (false≢true k)
   bound-in-head (some a) h x k = bound-in-atom a h x k
 
+-- a variable that stands in a safe rule is bound
+pub bound-where-safe : {U : Type 0} (r : Rule U) → safe r ≡ true → (x : ℕ) → in-rule x r ≡ true → bound r x ≡ true
+unfolding safe in-rule
+bound-where-safe r s x h = go (or-cases (in-head x (r .head)) (any (in-literal x) (r .body)) h)
+  where
+    go : (in-head x (r .head) ≡ true) ⊎ (any (in-literal x) (r .body) ≡ true) → bound r x ≡ true
+    go (inl k) = bound-in-head (bound r) (r .head) (and-left (head-bound (bound r) (r .head)) (every (literal-bound (bound r)) (r .body)) s) x k
+    go (inr k) =
+        let q = any-in (in-literal x) (r .body) k in
+        bound-in-literal (bound r) (q .0) (every-in (literal-bound (bound r)) (r .body) (q .0) (q .1) (and-right (head-bound (bound r) (r .head)) (every (literal-bound (bound r)) (r .body)) s)) x (q .2)
+
 variable-value : {U : Type 0} (σ : Substitution U) (x : ℕ) (t : Term U) → in-term x t ≡ true → value σ t ≡ σ x
 unfolding in-term value
 variable-value σ x (constant c) h = absurd (false≢true h)
@@ -114,12 +124,7 @@ module _ {U : Type 0} (D : Domain U) (laws : Laws D) (P : List (Rule U)) (I : Li
         by-side x e m (equal-side D laws I r σ x (side-value D σ e) (every-in (true-in D (member D I) σ) (r .body) (builtin equal (variable x) e) m (sym (body-true-is D (member D I) r σ) ∙ in-reduct))) (λ y k. bound-over (f y k))
 
     within : Within D P r σ
-    unfolding in-rule
-    within x h = bound-over (scan-exact r x .0 (go (or-cases (in-head x (r .head)) (any (in-literal x) (r .body)) h)))
-      where
-        go : (in-head x (r .head) ≡ true) ⊎ (any (in-literal x) (r .body) ≡ true) → bound r x ≡ true
-        go (inl k) = bound-in-head (bound r) (r .head) (safe-head D laws P I all-safe r is-rule) x k
-        go (inr k) = let q = any-in (in-literal x) (r .body) k in bound-in-literal (bound r) (q .0) (every-in (literal-bound (bound r)) (r .body) (q .0) (q .1) (safe-body D laws P I all-safe r is-rule)) x (q .2)
+    within x h = bound-over (scan-exact r x .0 (bound-where-safe r (every-in safe P r is-rule all-safe) x h))
 
     head-over : (a : Atom (Term U)) → r .head ≡ some a → Over (instance σ a)
     unfolding in-rule in-head in-atom in-term head-constants value
