@@ -1,19 +1,20 @@
--- Laws of `linesFrom`: it unrolls line by line.
-use Prim.Native.Nat.{ℕ, suc, _+_, _-_, _≤_, _<_}
-use native.Mathlib.Nat.{add-zero}
+-- Laws of `linesFrom`: it unrolls line by line, and a line may be had by its bytes.
+use Prim.Native.Nat.{ℕ, zero, suc, _+_, _-_, _≤_, _<_}
+use native.Mathlib.Nat.{add-zero, min-eq-left}
 use native.Mathlib.Omega.{arith}
 use mathlib.Core.Path.{_≡_, refl, sym, ap, _∙_}
 use mathlib.Core.Bool.{Bool, true, false}
 use mathlib.Core.List.{List, [], _∷_, _++_, nil≢cons}
 use lib.Dec.{eqb, ltb}
-use lib.ListN.{length, drop, length-drop, drop-of-length-le}
+use lib.ListN.{length, take, drop, length-take, length-drop, drop-of-length-le}
 use lib.Seq.{drop-drop}
 use borrow.Author.Tests.{ltb-true, ltb-false}
 use Rattle.lexis.specs.declared.Place.{Place}
 use Rattle.lexis.specs.Run.{inLine, prefixLen}
 use Rattle.lexis.proofs.Prefix.{prefix-nil, prefix-more, prefix-none}
 use Rattle.lexis.proofs.Every.{prefix-inside}
-use Rattle.report.specs.Lines.{placeOf, longer, linesAt, linesFrom, lineEnd, nextLine}
+use Rattle.lexis.specs.Tokens.{part}
+use Rattle.report.specs.Lines.{placeOf, longer, linesAt, linesFrom, lineEnd, nextLine, lineAt}
 
 pub lines-nil : (at : ℕ) → linesAt at [] ≡ []
 unfolding linesAt
@@ -62,9 +63,16 @@ first-line : (at b : ℕ) (rest : List ℕ) → linesAt at (b ∷ rest) ≡ unro
 first-line at b [] = by-first-byte at b [] (longer-none at)
 first-line at b (c ∷ more) = by-first-byte at b (c ∷ more) (longer-more at c more (first-line (suc at) c more))
 
+take-nil : (n : ℕ) → take {A = ℕ} n [] ≡ []
+take-nil zero = refl
+take-nil (suc n) = refl
+
 module _ (text : List ℕ) (at : ℕ) where
   pub lines-none : length text ≤ at → linesFrom text at ≡ []
   lines-none h = rw (drop-of-length-le text h) (lines-nil at)
+
+  pub line-none : length text ≤ at → part text (lineAt text at) ≡ []
+  line-none h = ap (take (lineAt text at .len)) (drop-of-length-le text h) ∙ take-nil (lineAt text at .len)
 
   pub end-inside : at < length text → lineEnd text at ≤ length text
   end-inside h = let p = prefix-inside inLine (drop at text) in omega (arith, length-drop at text)
@@ -91,7 +99,28 @@ lines-more text at h =
     let rest : drop (suc n) (drop at text) ≡ drop (suc at + n) text = drop-drop (suc n) at text ∙ ap (λ (i : ℕ). drop i text) next in
     rw (len, ← (behind-newline text (lineEnd text at)), ← shift, ← rest) (unrolled-at at (drop at text) (omega (arith, length-drop at text)))
 
--- it begins inside the text, and further on
+-- a line that is had by its bytes: its end, its place, and the lines from it on
+module _ (text line : List ℕ) (at : ℕ) (e : line ≡ part text (lineAt text at)) where
+  its-length : length line ≡ lineEnd text at - at
+  its-length =
+      let inside = prefix-inside inLine (drop at text) in
+      let fits : lineEnd text at - at ≤ length (drop at text) = omega arith in
+      ap length e ∙ length-take (lineAt text at .len) (drop at text) ∙ min-eq-left fits
+
+  pub its-end : at + length line ≡ lineEnd text at
+  its-end = omega (arith, its-length)
+
+  pub its-bytes : part text (placeOf at (length line)) ≡ line
+  its-bytes = ap (λ (n : ℕ). part text (placeOf at n)) its-length ∙ sym e
+
+  module _ (h : at < length text) where
+    pub its-end-inside : at + length line ≤ length text
+    its-end-inside = omega (arith, its-end, end-inside text at h)
+
+    pub lines-its : linesFrom text at ≡ placeOf at (length line) ∷ linesFrom text (nextLine text (at + length line))
+    lines-its = rw (its-end, its-length) (lines-more text at h)
+
+-- the line behind a line begins inside the text, and further on
 pub next-inside : (text : List ℕ) (end : ℕ) → nextLine text end ≤ length text
 unfolding nextLine
 next-inside text end = go (ltb end (length text)) refl

@@ -14,11 +14,11 @@ use Rattle.report.specs.declared.word.Word.the-variants.{Answer, Inconsi
 use Rattle.report.specs.declared.Report.{Report}
 use Rattle.report.specs.declared.around.Found.{Found}
 use Rattle.report.specs.declared.around.Found.the-variants.{Nothing, Line}
-use Rattle.report.specs.Lines.{placeOf, linesFrom, lineEnd, nextLine}
+use Rattle.report.specs.Lines.{placeOf, linesFrom, nextLine, lineAt}
 use Rattle.report.specs.Around.{AllIdle, First, OutOfPlace, none, some}
 use Rattle.report.specs.Word.{spelling, startsWith}
 use Rattle.report.specs.Report.{refused, found, Says, endOf, beginning, reported, Reported, missing, stray, says}
-use Rattle.report.proofs.LineList.{lines-none, lines-more, lines-behind, next-inside}
+use Rattle.report.proofs.LineList.{lines-none, lines-more, lines-its, lines-behind, next-inside}
 
 pub beginning-from : (text : List ℕ) (at : ℕ) → at ≤ length text → beginning text (linesFrom text at) ≡ at
 beginning-from text at h = go (ltb at (length text)) refl
@@ -33,8 +33,8 @@ module _ (text : List ℕ) (at : ℕ) where
   pub answer-alone : length text ≤ at → reported text Answer (linesFrom text at) ≡ refused (endOf text)
   answer-alone h = rw (lines-none text at h)
 
-  pub answer-facts : at < length text → (end : ℕ) → end ≡ lineEnd text at → reported text Answer (linesFrom text at) ≡ found Answer (placeOf at (end - at)) (nextLine text end)
-  answer-facts h end e = rw (e, lines-more text at h, beginning-from text (nextLine text (lineEnd text at)) (next-inside text (lineEnd text at)))
+  pub answer-facts : at < length text → (line : List ℕ) → line ≡ part text (lineAt text at) → reported text Answer (linesFrom text at) ≡ found Answer (placeOf at (length line)) (nextLine text (at + length line))
+  answer-facts h line e = rw (lines-its text line at e h, beginning-from text (nextLine text (at + length line)) (next-inside text (at + length line)))
 
 -- ---- the first line that may not stand around the report
 

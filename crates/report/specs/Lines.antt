@@ -1,5 +1,5 @@
 -- The lines of a text, each a place in it.
-use Prim.Native.Nat.{ℕ, suc, _+_, _≤_, _<_}
+use Prim.Native.Nat.{ℕ, suc, _+_, _-_, _≤_, _<_}
 use mathlib.Core.Path.{_≡_}
 use mathlib.Core.Bool.{Bool, true, cond}
 use mathlib.Core.List.{List, [], _∷_, _++_}
@@ -44,6 +44,13 @@ lineEnd text at = at + prefixLen inLine (drop at text)
 -- where the line behind one that ends at a place begins
 unfoldable pub nextLine : List ℕ → ℕ → ℕ
 nextLine text end = cond (ltb end (length text)) (end + 1) (length text)
+
+-- the line that starts at a place, and where the line behind it begins
+abbrev pub lineAt : List ℕ → ℕ → Place
+lineAt text at = placeOf at (lineEnd text at - at)
+
+abbrev pub behindLine : List ℕ → ℕ → ℕ
+behindLine text at = nextLine text (lineEnd text at)
 
 -- ---- what makes places the lines of a text (`lines-are`): no other places do (`lines-only`)
 

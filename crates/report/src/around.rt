@@ -2,8 +2,8 @@
 ghost use mathlib.Core.Path.{_≡_};
 ghost use Rattle.report.specs.Around.{isIdle, OutOfPlace};
 use crate::line::has_line;
-use crate::line::line_end;
 use crate::line::next_line;
+use crate::reader::line_from;
 use lexis::Place;
 
 // A line, or none.
@@ -28,12 +28,12 @@ pub fn out_of_place(text: &[u8], at: usize) -> Found
 {
     let mut start = at;
     while has_line(text, start) {
-        let end = line_end(text, start);
-        if !is_idle(&text[start..end]) {
-            let len = end - start;
+        let line = line_from(text, start);
+        let len = line.len();
+        if !is_idle(line) {
             return Found::Line(Place { start, len });
         }
-        start = next_line(text, end);
+        start = next_line(text, start + len);
     }
     Found::Nothing
 }

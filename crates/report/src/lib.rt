@@ -6,13 +6,14 @@ use around::Found;
 use around::out_of_place;
 use lexis::Place;
 use line::has_line;
-use line::line_end;
 use line::next_line;
+use reader::line_from;
 use word::Word;
 use word::starts_with;
 
 pub mod around;
 pub mod line;
+pub mod reader;
 pub mod word;
 
 // The refusal for a line out of place, and for a report or a facts line that is missing.
@@ -64,12 +65,10 @@ fn answer(output: &[u8], at: usize) -> Report
             len: 0,
         });
     }
-    let end = line_end(output, at);
-    let facts = Place {
-        start: at,
-        len: end - at,
-    };
-    found(Word::Answer, facts, next_line(output, end))
+    let line = line_from(output, at);
+    let len = line.len();
+    let facts = Place { start: at, len };
+    found(Word::Answer, facts, next_line(output, at + len))
 }
 
 // The report, whose first line is the first that is neither empty nor starts with `%`; or refusal 2 at that line, and at the

@@ -1,6 +1,7 @@
-// Lines of a text: whether one stands at a place, where it ends, and where the next one begins.
+// Lines of a text: whether one stands at a place, where it ends, its bytes, and where the next one begins.
 ghost use mathlib.Core.Path.{_≡_};
-ghost use Rattle.report.specs.Lines.{hasLine, lineEnd, nextLine};
+ghost use Rattle.lexis.specs.Tokens.{part};
+ghost use Rattle.report.specs.Lines.{hasLine, lineEnd, nextLine, lineAt, behindLine};
 use lexis::run::Run;
 use lexis::run::run_end;
 
@@ -27,4 +28,22 @@ pub fn next_line(text: &[u8], end: usize) -> usize
     } else {
         text.len()
     }
+}
+
+// The line that starts at `at`, without its newline; empty where there is none.
+pub fn line_at(text: &[u8], at: usize) -> &[u8]
+    ensures { λ r. ⌜ now r ≡ part (now (text .entry)) (lineAt (now (text .entry)) at) ⌝ }
+{
+    if !has_line(text, at) {
+        return &text[0..0];
+    }
+    let end = line_end(text, at);
+    &text[at..end]
+}
+
+// Where the line behind the one that starts at `at` begins.
+pub fn behind_line(text: &[u8], at: usize) -> usize
+    ensures { λ r. ⌜ r ≡ behindLine (now (text .entry)) at ⌝ }
+{
+    next_line(text, line_end(text, at))
 }

@@ -1,13 +1,14 @@
 -- `around::out_of_place` meets its contract. The invariant: what is first out of place from here on is so from the start on.
 -- The measure is what is left of the text: the next line begins further on. Assumes nothing.
 use Prim.Native.Nat.{_-_}
+use native.Mathlib.Omega.{arith}
 use mathlib.Core.Path.{sym, _∙_}
 use lib.ListN.{length}
 use borrow.Author.Tests.{ltb-true, ltb-false, not-true, not-false}
 use borrow.Author.Needs.{needs}
 use Rattle.report.specs.declared.around.Found.{Found}
 use Rattle.report.specs.Around.{OutOfPlace}
-use Rattle.report.proofs.LineList.{end-inside, less-left}
+use Rattle.report.proofs.LineList.{less-left, its-end, its-end-inside}
 use Rattle.report.proofs.Passing.{none-left, stop-here, pass-on}
 use Rattle.report.proofs.around.out_of_place.Statement.{statement}
 use Rattle.report.proofs.around.out_of_place.Tie as tie
@@ -24,46 +25,38 @@ loop-holds c = λ r h. h
 has-line-requires : tie.Need-has-line-requires Inv-loop μ-loop
 has-line-requires c κs = search needs
 
-line-end-requires : tie.Need-line-end-requires Inv-loop μ-loop
-line-end-requires c κs = search needs
-
-sub-is-idle : tie.Need-sub-is-idle Inv-loop μ-loop
-sub-is-idle c = search needs
-
-part-is-idle-start : tie.Need-part-is-idle-start Inv-loop μ-loop
-part-is-idle-start c = search needs
-
-part-is-idle-end : tie.Need-part-is-idle-end Inv-loop μ-loop
-part-is-idle-end c =
-    let here = ltb-true _ _ (sym (c .before .before .has-line .ensures) ∙ c .before .if1 .taken) in
-    let inside = end-inside (c .before .before .before .before .before .args .text .now) (c .before .before .before .loop .start) here in
-    search needs
+line-from-requires : tie.Need-line-from-requires Inv-loop μ-loop
+line-from-requires c κs = search needs
 
 is-idle-requires : tie.Need-is-idle-requires Inv-loop μ-loop
 is-idle-requires c κs = search needs
 
-sub-len : tie.Need-sub-len Inv-loop μ-loop
-sub-len c = search needs
-
 returns : tie.Need-returns Inv-loop μ-loop
 returns c =
-    let here = ltb-true _ _ (sym (c .before .before .before .before .before .has-line .ensures) ∙ c .before .before .before .before .if1 .taken) in
+    let here = ltb-true _ _ (sym (c .before .before .before .before .has-line .ensures) ∙ c .before .before .before .if1 .taken) in
     let other = sym (c .before .is-idle .ensures) ∙ not-true _ (c .if2 .taken) in
-    c .before .before .before .before .before .before .loop .inv _ (stop-here _ _ _ (c .before .before .before .line-end .ensures) here other)
+    c .before .before .before .before .before .loop .inv _ (stop-here _ _ _ (c .before .before .line-from .ensures) here other)
+
+add-next-line : tie.Need-add-next-line Inv-loop μ-loop
+add-next-line c =
+    let text = c .before .before .before .before .before .before .before .args .text .now in
+    let start = c .before .before .before .before .before .loop .start in
+    let here = ltb-true start (length text) (sym (c .before .before .before .before .has-line .ensures) ∙ c .before .before .before .if1 .taken) in
+    omega (arith, its-end-inside text (c .before .before .line-from .result .now) start (c .before .before .line-from .ensures) here)
 
 next-line-requires : tie.Need-next-line-requires Inv-loop μ-loop
 next-line-requires c κs = search needs
 
 loop-less : tie.Need-loop-less Inv-loop μ-loop
 loop-less c =
-    let here = ltb-true _ _ (sym (c .before .before .before .before .before .before .has-line .ensures) ∙ c .before .before .before .before .before .if1 .taken) in
-    less-left _ _ here _ (c .before .before .before .before .line-end .ensures) _ (c .next-line .ensures)
+    let here = ltb-true _ _ (sym (c .before .before .before .before .before .has-line .ensures) ∙ c .before .before .before .before .if1 .taken) in
+    less-left _ _ here _ (its-end _ _ _ (c .before .before .before .line-from .ensures)) _ (c .next-line .ensures)
 
 loop-again : tie.Need-loop-again Inv-loop μ-loop
 loop-again c =
-    let here = ltb-true _ _ (sym (c .before .before .before .before .before .before .has-line .ensures) ∙ c .before .before .before .before .before .if1 .taken) in
+    let here = ltb-true _ _ (sym (c .before .before .before .before .before .has-line .ensures) ∙ c .before .before .before .before .if1 .taken) in
     let idle = sym (c .before .before .is-idle .ensures) ∙ not-false _ (c .before .if2 .left) in
-    λ r h. c .before .before .before .before .before .before .before .loop .inv r (pass-on _ _ _ (c .before .before .before .before .line-end .ensures) here idle (rw (c .next-line .ensures) at h))
+    λ r h. c .before .before .before .before .before .before .loop .inv r (pass-on _ _ _ (c .before .before .before .line-from .ensures) here idle (rw (c .next-line .ensures) at h))
 
 returns-2 : tie.Need-returns-2 Inv-loop μ-loop
 returns-2 c = c .before .before .loop .inv _ (none-left _ _ (ltb-false _ _ (sym (c .before .has-line .ensures) ∙ c .if1 .left)))
@@ -76,13 +69,10 @@ out-of-place-spec =
     μ-loop
     loop-holds
     has-line-requires
-    line-end-requires
-    sub-is-idle
-    part-is-idle-start
-    part-is-idle-end
+    line-from-requires
     is-idle-requires
-    sub-len
     returns
+    add-next-line
     next-line-requires
     loop-less
     loop-again
