@@ -1,0 +1,22 @@
+use borrow.Author.Needs.{needs}
+use Rattle.rule.proofs.Literal.empty.Statement.{statement}
+use Rattle.rule.proofs.Literal.empty.Tie as tie
+use Rattle.rule.proofs.Literal.empty.Reads as reads
+use Rattle.rule.proofs.Literal.empty.Lts as lts
+use Rattle.rule.proofs.Atom.empty.Reads as Atom-empty-reads
+use Rattle.rule.proofs.Term.empty.Reads as Term-empty-reads
+
+-- src/lib.rt:110:13
+empty-requires : tie.Need-empty-requires
+empty-requires c κs = search needs
+
+-- src/lib.rt:111:13
+empty-requires-2 : tie.Need-empty-requires-2
+empty-requires-2 c κs = search needs
+
+-- src/lib.rt:107:5
+returns : tie.Need-returns
+returns c = cc
+
+pub empty-spec : {M : Type 1} → statement M
+empty-spec = tie.close (tie.spec empty-requires empty-requires-2 returns)

@@ -1,0 +1,27 @@
+use borrow.Author.Needs.{needs}
+use Rattle.rule.proofs.Rule.empty.Statement.{statement}
+use Rattle.rule.proofs.Rule.empty.Tie as tie
+use Rattle.rule.proofs.Rule.empty.Reads as reads
+use Rattle.rule.proofs.Rule.empty.Lts as lts
+use Rattle.rule.proofs.Atom.empty.Reads as Atom-empty-reads
+use Rattle.rule.proofs.Literal.empty.Reads as Literal-empty-reads
+use Rattle.rule.proofs.Variables.empty.Reads as Variables-empty-reads
+
+-- src/lib.rt:151:13
+empty-requires : tie.Need-empty-requires
+empty-requires c κs = search needs
+
+-- src/lib.rt:152:13
+empty-requires-2 : tie.Need-empty-requires-2
+empty-requires-2 c κs = search needs
+
+-- src/lib.rt:153:13
+empty-requires-3 : tie.Need-empty-requires-3
+empty-requires-3 c κs = search needs
+
+-- src/lib.rt:148:5
+returns : tie.Need-returns
+returns c = cc
+
+pub empty-spec : {M : Type 1} → statement M
+empty-spec = tie.close (tie.spec empty-requires empty-requires-2 empty-requires-3 returns)
