@@ -1,5 +1,5 @@
 -- How the parts of a rule by value are built: empty ones, and one more behind those that are there.
-use mathlib.Core.Bool.{true, false}
+use mathlib.Core.Bool.{Bool, true, false}
 use Prim.Native.Nat.{ℕ, _+_}
 use lib.ListN.{set, replicate}
 use Rattle.lexis.specs.declared.Place.{Place}
@@ -38,5 +38,10 @@ withTerm a t = record { terms = set (a .terms) (a .count) t; count = a .count + 
 abbrev pub withPlace : Variables → Place → Variables
 withPlace v p = record { places = set (v .places) (v .count) p; count = v .count + 1 }
 
-abbrev pub withLiteral : Rule → Literal → Rule
-withLiteral r l = record { place = r .place; headed = r .headed; head = r .head; body = set (r .body) (r .count) l; count = r .count + 1; variables = r .variables }
+-- with the variables met behind it
+abbrev pub withLiteral : Rule → Literal → Variables → Rule
+withLiteral r l v = record { place = r .place; headed = r .headed; head = r .head; body = set (r .body) (r .count) l; count = r .count + 1; variables = v }
+
+-- a rule that has no body yet
+abbrev pub headOnly : Bool → Atom → Variables → Rule
+headOnly headed head v = record { place = noPlace; headed = headed; head = head; body = replicate 16 noLiteral; count = 0; variables = v }

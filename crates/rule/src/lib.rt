@@ -1,7 +1,7 @@
 // A rule by value: its terms, atoms and literals, and where they stand in the text.
 ghost use mathlib.Core.Path.{_≡_};
 ghost use Prim.Native.Nat.{_<_};
-ghost use Rattle.rule.specs.Build.{noTerm, noArguments, noAtom, noLiteral, noVariables, noRule, withTerm, withPlace, withLiteral};
+ghost use Rattle.rule.specs.Build.{noTerm, noArguments, noAtom, noLiteral, noVariables, noRule, withTerm, withPlace, withLiteral, headOnly};
 use lexis::Place;
 
 pub mod name;
@@ -172,14 +172,30 @@ impl Rule {
         }
     }
 
-    // The rule with one literal more in its body, for which there is room.
-    pub fn with_literal(mut self, literal: Literal) -> Self
+    // A rule that has no body yet: its head, if it has one, and the variables met behind it.
+    pub fn head_only(headed: bool, head: Atom, variables: Variables) -> Self
+        ensures { λ r. ⌜ r ≡ headOnly headed head variables ⌝ }
+    {
+        let literal = Literal::empty();
+        Rule {
+            place: Place { start: 0, len: 0 },
+            headed,
+            head,
+            body: [literal; MOST_LITERALS],
+            count: 0,
+            variables,
+        }
+    }
+
+    // The rule with one literal more in its body, for which there is room, and the variables met behind it.
+    pub fn with_literal(mut self, literal: Literal, variables: Variables) -> Self
         requires { ⌜ self .count < 16 ⌝ }
-        ensures { λ r. ⌜ r ≡ withLiteral self literal ⌝ }
+        ensures { λ r. ⌜ r ≡ withLiteral self literal variables ⌝ }
     {
         let at = self.count;
         self.body[at] = literal;
         self.count = at + 1;
+        self.variables = variables;
         self
     }
 }

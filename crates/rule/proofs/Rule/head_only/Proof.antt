@@ -1,0 +1,17 @@
+use borrow.Author.Needs.{needs}
+use Rattle.rule.proofs.Rule.head_only.Statement.{statement}
+use Rattle.rule.proofs.Rule.head_only.Tie as tie
+use Rattle.rule.proofs.Rule.head_only.Reads as reads
+use Rattle.rule.proofs.Rule.head_only.Lts as lts
+use Rattle.rule.proofs.Literal.empty.Reads as empty-reads
+
+-- src/lib.rt:170:13
+empty-requires : tie.Need-empty-requires
+empty-requires c κs = search needs
+
+-- src/lib.rt:167:5
+returns : tie.Need-returns
+returns c = cc
+
+pub head-only-spec : {M : Type 1} → statement M
+head-only-spec = tie.close (tie.spec empty-requires returns)

@@ -1,0 +1,15 @@
+pub mod Tokens
+pub mod Steps
+pub mod Sizes
+pub mod Readings
+pub mod Variables
+pub mod Terms
+pub mod Lists
+pub mod ArgumentLists
+pub mod Atoms
+pub mod Builtins
+pub mod Literals
+pub mod Bodies
+pub mod Rules
+pub mod Programs
+pub mod Written

@@ -1,0 +1,51 @@
+-- Lists by value, and what several things read one after the other share.
+use mathlib.Core.Path.{_≡_, refl, sym as inv, ap, _∙_}
+use mathlib.Core.Bool.{Bool, true, false}
+use mathlib.Core.List.{List, [], _∷_, _++_, map, map-append}
+use Prim.Native.Nat.{ℕ, suc, _+_, _≤_, _<_}
+use native.Mathlib.Omega.{arith}
+use native.Mathlib.Numerals.{add-one}
+use lib.Dec.{leb, ltb}
+use lib.ListN.{length, take, set}
+use lib.Seq.{take-suc-set}
+use borrow.Author.Tests.{leb-true, leb-false, lt-ltb, le-ltb}
+use Rattle.reading.specs.Reading.{_▹_}
+use Rattle.meaning.specs.Rules.{Bytes}
+use Rattle.grammar.specs.Tokens.{comma}
+use Rattle.grammar.specs.Trees.{Sequence, _then_, count}
+use Rattle.grammar.specs.Spelling.{Spelling, mere, with-commas}
+use Rattle.grammar.specs.Variables.{Variables as Names, meet-symbol, meet, met}
+use Rattle.grammar.proofs.Variables.{met-append}
+use Rattle.syntax.specs.declared.token.TokenRead.{TokenRead}
+use Rattle.syntax.specs.declared.separator.SeparatorRead.{SeparatorRead}
+use Rattle.syntax.specs.Text.{tokenRead}
+use Rattle.syntax.specs.Arguments.{goneSeparator, stoppedSeparator, Separates, last, neither}
+
+-- one more is put behind those that are there
+pub map-put : {A B : Type 0} (f : A → B) (l : List A) (n : ℕ) (a : A) → n < length l → map f (take (n + 1) (set l n a)) ≡ map f (take n l) ▹ f a
+map-put f l n a h = rw (add-one n, take-suc-set l n a h) (map-append f (take n l) (a ∷ []))
+
+-- the next of n things is one too many where there are as many as there may be
+pub too-many-next : (most n : ℕ) → ltb most (suc n) ≡ leb most n
+too-many-next most n = go (leb most n) refl
+  where
+    go : (b : Bool) → leb most n ≡ b → ltb most (suc n) ≡ leb most n
+    go true e = rw e (lt-ltb most (suc n) (omega (arith, leb-true most n e)))
+    go false e = rw e (le-ltb most (suc n) (omega (arith, leb-false most n e)))
+
+-- the variables met behind one thing more and its comma
+pub met-then : {A : Type 0} (f : ℕ → A → Spelling) (vs : Names) (xs : Sequence A) (x : A) → met vs (with-commas f (xs then x)) ≡ met (met vs (with-commas f xs)) (f (suc (count xs)) x)
+unfolding with-commas met meet meet-symbol
+met-then f vs xs x = met-append vs (with-commas f xs ++ f (suc (count xs)) x) (mere comma ∷ []) ∙ met-append vs (with-commas f xs) (f (suc (count xs)) x)
+
+-- ---- a separator, by the token there
+
+module _ (ground : Bool) (text : Bytes) (at mark : ℕ) (t : TokenRead) (et : t ≡ tokenRead ground text at) (r : SeparatorRead) where
+  pub is-comma : t .kind ≡ 7 → r ≡ goneSeparator (t .next) false → Separates ground text at mark r
+  is-comma k e = Separates.comma (rw et at k) (rw et at e)
+
+  pub is-last : t .kind ≡ mark → r ≡ goneSeparator (t .next) true → Separates ground text at mark r
+  is-last k e = last (rw et at k) (rw et at e)
+
+  pub is-neither : (t .kind ≡ 7 → ⊥) → (t .kind ≡ mark → ⊥) → r ≡ stoppedSeparator (t .place) → Separates ground text at mark r
+  is-neither k l e = neither (rw et at k) (rw et at l) (rw et at e)

@@ -1,0 +1,18 @@
+-- `atom::stopped` meets its contract. Assumes nothing.
+use borrow.Author.Needs.{needs}
+use Rattle.syntax.proofs.atom.stopped.Statement.{statement}
+use Rattle.syntax.proofs.atom.stopped.Tie as tie
+use Rattle.syntax.proofs.atom.stopped.Reads as reads
+use Rattle.syntax.proofs.atom.stopped.Lts as lts
+use Rattle.rule.proofs.Atom.empty.Reads as empty-reads
+
+-- src/atom.rt:32:9
+empty-requires : tie.Need-empty-requires
+empty-requires c κs = search needs
+
+-- src/atom.rt:29:1
+returns : tie.Need-returns
+returns c = cc
+
+pub stopped-spec : {M : Type 1} → statement M
+stopped-spec = tie.close (tie.spec empty-requires returns)

@@ -1,0 +1,18 @@
+-- `body::stopped` meets its contract. Assumes nothing.
+use borrow.Author.Needs.{needs}
+use Rattle.syntax.proofs.body.stopped.Statement.{statement}
+use Rattle.syntax.proofs.body.stopped.Tie as tie
+use Rattle.syntax.proofs.body.stopped.Reads as reads
+use Rattle.syntax.proofs.body.stopped.Lts as lts
+use Rattle.rule.proofs.Rule.empty.Reads as empty-reads
+
+-- src/body.rt:30:9
+empty-requires : tie.Need-empty-requires
+empty-requires c κs = search needs
+
+-- src/body.rt:27:1
+returns : tie.Need-returns
+returns c = cc
+
+pub stopped-spec : {M : Type 1} → statement M
+stopped-spec = tie.close (tie.spec empty-requires returns)

@@ -1,0 +1,17 @@
+-- `builtin::is_comparison` meets its contract. Assumes nothing.
+use Rattle.syntax.proofs.Builtins.{no-sign-below, sign-from}
+use Rattle.syntax.proofs.builtin.is_comparison.Statement.{statement}
+use Rattle.syntax.proofs.builtin.is_comparison.Tie as tie
+use Rattle.syntax.proofs.builtin.is_comparison.Reads as reads
+use Rattle.syntax.proofs.builtin.is_comparison.Lts as lts
+
+-- src/builtin.rt:78:9
+returns : tie.Need-returns
+returns c = no-sign-below _ (c .if1 .taken)
+
+-- src/builtin.rt:74:1
+returns-2 : tie.Need-returns-2
+returns-2 c = sign-from _ (c .if1 .left)
+
+pub is-comparison-spec : {M : Type 1} → statement M
+is-comparison-spec = tie.close (tie.spec returns returns-2)

@@ -1,0 +1,18 @@
+-- `builtin::stopped` meets its contract. Assumes nothing.
+use borrow.Author.Needs.{needs}
+use Rattle.syntax.proofs.builtin.stopped.Statement.{statement}
+use Rattle.syntax.proofs.builtin.stopped.Tie as tie
+use Rattle.syntax.proofs.builtin.stopped.Reads as reads
+use Rattle.syntax.proofs.builtin.stopped.Lts as lts
+use Rattle.rule.proofs.Literal.empty.Reads as empty-reads
+
+-- src/builtin.rt:37:9
+empty-requires : tie.Need-empty-requires
+empty-requires c κs = search needs
+
+-- src/builtin.rt:34:1
+returns : tie.Need-returns
+returns c = cc
+
+pub stopped-spec : {M : Type 1} → statement M
+stopped-spec = tie.close (tie.spec empty-requires returns)

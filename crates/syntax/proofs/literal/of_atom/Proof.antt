@@ -1,0 +1,18 @@
+-- `literal::of_atom` meets its contract. Assumes nothing.
+use borrow.Author.Needs.{needs}
+use Rattle.syntax.proofs.literal.of_atom.Statement.{statement}
+use Rattle.syntax.proofs.literal.of_atom.Tie as tie
+use Rattle.syntax.proofs.literal.of_atom.Reads as reads
+use Rattle.syntax.proofs.literal.of_atom.Lts as lts
+use Rattle.rule.proofs.Term.empty.Reads as empty-reads
+
+-- src/literal.rt:40:9
+empty-requires : tie.Need-empty-requires
+empty-requires c κs = search needs
+
+-- src/literal.rt:37:1
+returns : tie.Need-returns
+returns c = cc
+
+pub of-atom-spec : {M : Type 1} → statement M
+of-atom-spec = tie.close (tie.spec empty-requires returns)

@@ -1,0 +1,18 @@
+-- `program::placed` meets its contract. Assumes nothing.
+use borrow.Author.Needs.{needs}
+use Rattle.syntax.proofs.program.placed.Statement.{statement}
+use Rattle.syntax.proofs.program.placed.Tie as tie
+use Rattle.syntax.proofs.program.placed.Reads as reads
+use Rattle.syntax.proofs.program.placed.Lts as lts
+use Rattle.syntax.proofs.program.between.Reads as between-reads
+
+-- src/program.rt:54:9
+between-requires : tie.Need-between-requires
+between-requires c κs = search needs
+
+-- src/program.rt:50:1
+returns : tie.Need-returns
+returns c = cc
+
+pub placed-spec : {M : Type 1} → statement M
+placed-spec = tie.close (tie.spec between-requires returns)

@@ -1,0 +1,35 @@
+-- `term::negative_number` meets its contract. Assumes nothing.
+use mathlib.Core.Bool.{false}
+use Rattle.syntax.proofs.Terms.{negative-number, negative-wrong}
+use borrow.Author.Needs.{needs}
+use Rattle.syntax.proofs.term.negative_number.Statement.{statement}
+use Rattle.syntax.proofs.term.negative_number.Tie as tie
+use Rattle.syntax.proofs.term.negative_number.Reads as reads
+use Rattle.syntax.proofs.term.negative_number.Lts as lts
+use Rattle.syntax.proofs.term.number_term.Reads as number-term-reads
+use Rattle.syntax.proofs.term.stopped.Reads as stopped-reads
+use Rattle.syntax.proofs.token.token_at.Reads as token-at-reads
+
+-- src/term.rt:145:9
+token-at-requires : tie.Need-token-at-requires
+token-at-requires c κs = search needs
+
+-- src/term.rt:147:9
+number-term-requires : tie.Need-number-term-requires
+number-term-requires c κs = search needs
+
+-- src/term.rt:147:9
+returns : tie.Need-returns
+returns c = negative-number (c .before .before .before .before .before .args .ground) false (c .before .before .before .before .before .args .text .now) (c .before .before .before .before .before .args .at) _ (c .before .before .before .token-at .ensures) _ (c .before .before .before .before .before .pre) _ (c .before .if1 .taken) (c .number-term .ensures)
+
+-- src/term.rt:149:5
+stopped-requires : tie.Need-stopped-requires
+stopped-requires c κs = search needs
+
+-- src/term.rt:141:1
+returns-2 : tie.Need-returns-2
+returns-2 c = negative-wrong (c .before .before .before .before .before .args .ground) false (c .before .before .before .before .before .args .text .now) (c .before .before .before .before .before .args .at) _ (c .before .before .before .token-at .ensures) _ (c .before .before .before .before .before .pre) _ (c .before .if1 .left) (c .stopped .ensures)
+
+pub negative-number-spec : {M : Type 1} → statement M
+negative-number-spec =
+    tie.close (tie.spec token-at-requires number-term-requires returns stopped-requires returns-2)

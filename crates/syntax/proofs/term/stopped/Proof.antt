@@ -1,0 +1,18 @@
+-- `term::stopped` meets its contract. Assumes nothing.
+use borrow.Author.Needs.{needs}
+use Rattle.syntax.proofs.term.stopped.Statement.{statement}
+use Rattle.syntax.proofs.term.stopped.Tie as tie
+use Rattle.syntax.proofs.term.stopped.Reads as reads
+use Rattle.syntax.proofs.term.stopped.Lts as lts
+use Rattle.rule.proofs.Term.empty.Reads as empty-reads
+
+-- src/term.rt:47:9
+empty-requires : tie.Need-empty-requires
+empty-requires c κs = search needs
+
+-- src/term.rt:44:1
+returns : tie.Need-returns
+returns c = cc
+
+pub stopped-spec : {M : Type 1} → statement M
+stopped-spec = tie.close (tie.spec empty-requires returns)

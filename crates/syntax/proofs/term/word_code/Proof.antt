@@ -1,0 +1,26 @@
+-- `term::word_code` meets its contract. Assumes nothing.
+use mathlib.Core.Path.{refl}
+use borrow.Author.Tests.{lt-ltb, le-ltb}
+use Rattle.syntax.specs.Terms.{wordCode}
+use Rattle.syntax.proofs.term.word_code.Statement.{statement}
+use Rattle.syntax.proofs.term.word_code.Tie as tie
+use Rattle.syntax.proofs.term.word_code.Reads as reads
+use Rattle.syntax.proofs.term.word_code.Lts as lts
+
+-- src/term.rt:90:9
+returns : tie.Need-returns
+unfolding wordCode
+returns c = rw (lt-ltb 64 _ (c .if1 .taken))
+
+-- src/term.rt:93:9
+returns-2 : tie.Need-returns-2
+unfolding wordCode
+returns-2 c = rw (le-ltb 64 _ (c .before .if1 .left), c .if2 .taken)
+
+-- src/term.rt:86:1
+returns-3 : tie.Need-returns-3
+unfolding wordCode
+returns-3 c = rw (le-ltb 64 _ (c .before .if1 .left), c .if2 .left)
+
+pub word-code-spec : {M : Type 1} → statement M
+word-code-spec = tie.close (tie.spec returns returns-2 returns-3)

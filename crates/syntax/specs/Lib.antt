@@ -1,0 +1,12 @@
+-- In the order to read them in.
+pub mod Text
+pub mod Ahead
+pub mod Written
+pub mod Reads
+pub mod Terms
+pub mod Arguments
+pub mod Atoms
+pub mod Builtins
+pub mod Literals
+pub mod Rules
+pub mod Programs

@@ -1,0 +1,11 @@
+// Tokens to rules: each function reads one production of the grammar, by value, and says where reading goes on or why it stops.
+pub mod arguments;
+pub mod atom;
+pub mod body;
+pub mod builtin;
+pub mod literal;
+pub mod program;
+pub mod separator;
+pub mod term;
+pub mod token;
+pub mod variable;

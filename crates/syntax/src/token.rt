@@ -1,0 +1,34 @@
+// The token at a place, as the productions see it, and how far reading has got.
+ghost use mathlib.Core.Path.{_≡_};
+ghost use Rattle.syntax.specs.Text.{tokenRead};
+use lexis::Place;
+use lexis::kind::kind_number;
+use lexis::next_token;
+
+// A token: the number of its kind, where it stands, and where reading goes on behind it.
+pub struct TokenRead {
+    pub kind: u8,
+    pub place: Place,
+    pub next: usize,
+}
+
+// How far reading has got: code 0 and where it goes on, or the number of a refusal and its place.
+pub struct Progress {
+    pub code: u8,
+    pub place: Place,
+    pub next: usize,
+}
+
+// The first token at or after `at`. `ground`: the text is a facts line, where no comment may stand.
+pub fn token_at(text: &[u8], at: usize, ground: bool) -> TokenRead
+    ensures { λ r. ⌜ r ≡ tokenRead ground (now (text .entry)) at ⌝ }
+{
+    let token = next_token(text, at, !ground);
+    let kind = token.kind;
+    let place = token.place;
+    TokenRead {
+        kind: kind_number(kind),
+        place,
+        next: place.start + place.len,
+    }
+}
