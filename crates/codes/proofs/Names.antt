@@ -18,13 +18,13 @@ use Rattle.codes.proofs.Wider.{wider-fact, wider-rule}
 pub distinct-none : Distinct []
 distinct-none = record { once = λ i j n e f. absurd (none-some e); nonempty = λ i e. none-some e }
 
-at-last : {A : Type 0} (xs : List A) (y : A) (i : ℕ) (a : A) → getElem? (xs ++ (y ∷ [])) i ≡ some a → (getElem? xs i ≡ some a) ⊎ ((i ≡ length xs) × (y ≡ a))
+pub at-last : {A : Type 0} (xs : List A) (y : A) (i : ℕ) (a : A) → getElem? (xs ++ (y ∷ [])) i ≡ some a → (getElem? xs i ≡ some a) ⊎ ((i ≡ length xs) × (y ≡ a))
 at-last [] y zero a e = inr (refl, some-inj e)
 at-last [] y (suc i) a e = absurd (none-some e)
 at-last (x ∷ xs) y zero a e = inl e
 at-last (x ∷ xs) y (suc i) a e = elim (at-last xs y i a e) [ inl h ↦ inl h | inr h ↦ inr (ap suc (h .0), h .1) ]
 
-last-at : {A : Type 0} (xs : List A) (y : A) → getElem? (xs ++ (y ∷ [])) (length xs) ≡ some y
+pub last-at : {A : Type 0} (xs : List A) (y : A) → getElem? (xs ++ (y ∷ [])) (length xs) ≡ some y
 last-at [] y = refl
 last-at (x ∷ xs) y = last-at xs y
 
@@ -51,7 +51,7 @@ module _ (names : List Bytes) (new : Bytes) where
 
 -- ---- every code keeps its value
 
-still-at : {A : Type 0} (xs ys : List A) (i : ℕ) {a : A} → getElem? xs i ≡ some a → getElem? (xs ++ ys) i ≡ some a
+pub still-at : {A : Type 0} (xs ys : List A) (i : ℕ) {a : A} → getElem? xs i ≡ some a → getElem? (xs ++ ys) i ≡ some a
 still-at [] ys i e = absurd (none-some e)
 still-at (x ∷ xs) ys zero e = e
 still-at (x ∷ xs) ys (suc i) e = still-at xs ys i e

@@ -1,0 +1,70 @@
+-- `seek` meets its contract. The invariant: the link leads to a name of the slot or is 0, and the name that is looked for has no number
+-- from the link on. The measure is the link. Assumes nothing.
+use mathlib.Core.Path.{sym, _∙_}
+use native.Mathlib.Omega.{arith}
+use Rattle.meaning.proofs.Facts.{same-bytes-sound}
+use Rattle.names.specs.Table.{count, name-at}
+use Prim.Native.Nat.{_-_}
+use Rattle.names.proofs.Standing.{name-read}
+use Rattle.names.proofs.Slots.{slot-inside}
+use Rattle.names.proofs.Chains.{Seeking, seeking-starts, seeking-on, seeking-none, seeking-found, differs}
+use borrow.Author.Needs.{needs}
+use Rattle.names.proofs.seek.Statement.{statement}
+use Rattle.names.proofs.seek.Tie as tie
+
+abbrev Inv-loop : tie.InvT-loop
+Inv-loop program output table name slot link₀ link = Seeking (name-at program output table) slot (count table) name link
+
+abbrev μ-loop : tie.MeasureT-loop
+μ-loop program output table name slot link₀ link = link
+
+head-requires : tie.Need-head-requires Inv-loop μ-loop
+head-requires c κs = (c .before .before .before .before .pre .0 .size, slot-inside _ _ (c .before .before .before .before .pre .1))
+
+loop-holds : tie.Need-loop-holds Inv-loop μ-loop
+loop-holds c = rw (c .head .ensures) (seeking-starts _ _ _ _ (c .before .before .before .before .before .pre .1) _ (c .before .before .before .before .before .pre .0 .heads (c .before .before .before .before .before .args .slot) (slot-inside _ _ (c .before .before .before .before .before .pre .1))))
+
+sub-number : tie.Need-sub-number Inv-loop μ-loop
+sub-number c = search needs
+
+place-requires : tie.Need-place-requires Inv-loop μ-loop
+place-requires c κs = (c .before .before .before .before .before .before .before .pre .0 .size, let w = c .before .loop .inv .within in let r = c .before .before .before .before .before .before .before .pre .0 .room in omega arith)
+
+bytes-at-requires : tie.Need-bytes-at-requires Inv-loop μ-loop
+bytes-at-requires c κs = search needs
+
+same-bytes-requires : tie.Need-same-bytes-requires Inv-loop μ-loop
+same-bytes-requires c κs = search needs
+
+returns : tie.Need-returns Inv-loop μ-loop
+returns c = seeking-found _ _ _ _ (c .before .before .before .before .before .before .before .before .before .before .before .pre .1) _ (c .before .before .before .before .before .loop .inv) (omega arith) (sym (name-read _ _ _ _ _ _ (c .before .before .before .place .ensures) (c .before .before .bytes-at .ensures)) ∙ same-bytes-sound _ _ (sym (c .before .same-bytes .ensures) ∙ c .if1 .taken))
+
+link-requires : tie.Need-link-requires Inv-loop μ-loop
+link-requires c κs = (c .before .before .before .before .before .before .before .before .before .before .before .pre .0 .size, let w = c .before .before .before .before .before .loop .inv .within in let r = c .before .before .before .before .before .before .before .before .before .before .before .pre .0 .room in omega arith)
+
+loop-less : tie.Need-loop-less Inv-loop μ-loop
+loop-less c = let w = c .before .before .before .before .before .before .loop .inv .within in let h = c .before .before .before .before .before .loop-test .taken in let l = c .before .before .before .before .before .before .before .before .before .before .before .before .pre .0 .links (c .before .before .before .before .before .before .loop .link - 1) (omega arith) .within in let e = c .link .ensures in omega arith
+
+loop-again : tie.Need-loop-again Inv-loop μ-loop
+loop-again c = rw (c .link .ensures) (seeking-on _ _ _ _ (c .before .before .before .before .before .before .before .before .before .before .before .before .pre .1) _ _ (c .before .before .before .before .before .before .loop .inv) (omega arith) (λ e. differs _ _ (sym (c .before .before .same-bytes .ensures) ∙ c .before .if1 .left) (name-read _ _ _ _ _ _ (c .before .before .before .before .place .ensures) (c .before .before .before .bytes-at .ensures) ∙ e)) (c .before .before .before .before .before .before .before .before .before .before .before .before .pre .0 .links (c .before .before .before .before .before .before .loop .link - 1) (let w = c .before .before .before .before .before .before .loop .inv .within in let h = c .before .before .before .before .before .loop-test .taken in omega arith)))
+
+returns-2 : tie.Need-returns-2 Inv-loop μ-loop
+returns-2 c = seeking-none _ _ _ _ (c .before .before .before .before .before .before .before .pre .1) _ (c .before .loop .inv) (c .loop-test .left)
+
+pub seek-spec : {M : Type 1} → statement M
+seek-spec =
+    tie.close
+    (tie.spec
+    Inv-loop
+    μ-loop
+    head-requires
+    loop-holds
+    sub-number
+    place-requires
+    bytes-at-requires
+    same-bytes-requires
+    returns
+    link-requires
+    loop-less
+    loop-again
+    returns-2)

@@ -1,0 +1,29 @@
+-- `table::place` meets its contract. Assumes nothing.
+use mathlib.Core.Path.{ap₂}
+use Rattle.names.specs.Texts.{place-at}
+use borrow.Author.Needs.{needs}
+use Rattle.names.proofs.table.place.Statement.{statement}
+use Rattle.names.proofs.table.place.Tie as tie
+
+mul-at : tie.Need-mul-at
+mul-at c = search needs
+
+add-at : tie.Need-add-at
+add-at c = search needs
+
+number-at-requires : tie.Need-number-at-requires
+number-at-requires c κs = search needs
+
+add-number-at : tie.Need-add-number-at
+add-number-at c = search needs
+
+number-at-requires-2 : tie.Need-number-at-requires-2
+number-at-requires-2 c κs = search needs
+
+returns : tie.Need-returns
+returns c = ap₂ place-at (c .before .number-at .ensures) (c .number-at2 .ensures)
+
+pub place-spec : {M : Type 1} → statement M
+place-spec =
+    tie.close
+    (tie.spec mul-at add-at number-at-requires add-number-at number-at-requires-2 returns)

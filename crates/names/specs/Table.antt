@@ -1,0 +1,113 @@
+-- The table of names: numbers in one slice. Its first is how many names there are. Then stands a head for each slot, and then a row of three
+-- for each name: where its bytes start in the two texts, how many they are, and the link to an earlier name of its slot.
+use mathlib.Core.Path.{_≡_}
+use mathlib.Core.List.{List, [], _∷_, _++_}
+use Prim.Native.Nat.{ℕ, zero, suc, _+_, _*_, _%_, _≤_, _<_}
+use lib.ListN.{length, getD, set}
+use Rattle.lexis.specs.declared.Place.{Place}
+use Rattle.meaning.specs.Rules.{Bytes}
+use Rattle.codes.specs.Codes.{Distinct}
+use Rattle.names.specs.Texts.{place-at, bytes-at}
+
+abbrev pub slots : ℕ
+slots = 4_096
+
+abbrev pub first-row : ℕ
+first-row = 4_097
+
+-- 256 rules of 17 atoms and 1,024 facts have each 9 names, so no more than this are ever met
+abbrev pub most-names : ℕ
+most-names = 48_384
+
+-- the numbers of a table with room for them
+abbrev pub table-size : ℕ
+table-size = 149_249
+
+-- the most bytes of each text
+abbrev pub text-size : ℕ
+text-size = 65_536
+
+-- every number of a table is below this
+abbrev pub limit : ℕ
+limit = 4_294_967_296
+
+abbrev pub factor : ℕ
+factor = 241
+
+-- ---- the numbers of a table
+
+abbrev pub count : List ℕ → ℕ
+count table = getD table 0 0
+
+abbrev pub head : List ℕ → ℕ → ℕ
+head table slot = getD table (slot + 1) 0
+
+abbrev pub row : ℕ → ℕ
+row i = first-row + i * 3
+
+abbrev pub link : List ℕ → ℕ → ℕ
+link table i = getD table (row i + 2) 0
+
+-- where a name's bytes stand in the two texts
+abbrev pub place-of : List ℕ → ℕ → Place
+place-of table i = place-at (getD table (row i) 0) (getD table (row i + 1) 0)
+
+-- ---- the names that a table stands for
+
+unfoldable pub name-at : Bytes → Bytes → List ℕ → ℕ → Bytes
+name-at program output table i = bytes-at program output (place-of table i)
+
+-- the first n of a family, in order
+unfoldable pub first : (ℕ → Bytes) → ℕ → List Bytes
+first name zero = []
+first name (suc n) = first name n ++ (name n ∷ [])
+
+abbrev pub names-of : Bytes → Bytes → List ℕ → List Bytes
+names-of program output table = first (name-at program output table) (count table)
+
+-- the bytes of the name with a number; none where no name has it
+abbrev pub bytes-of : Bytes → Bytes → List ℕ → ℕ → Bytes
+bytes-of program output table i = getD (names-of program output table) i []
+
+-- ---- the slot of a name, a hash of its bytes
+
+unfoldable pub slot-from : ℕ → Bytes → ℕ
+slot-from slot [] = slot
+slot-from slot (b ∷ rest) = slot-from ((slot * factor + b) % slots) rest
+
+abbrev pub slot-of : Bytes → ℕ
+slot-of name = slot-from 0 name
+
+-- ---- a table in order
+
+-- a link is 0, or one more than the number of the last of the first n names that is in the slot
+pub record Latest (name : ℕ → Bytes) (slot n link : ℕ) : Type 0 where
+  pub within : link ≤ n
+  pub in-slot : (j : ℕ) → link ≡ suc j → slot-of (name j) ≡ slot
+  pub latest : (i : ℕ) → i < n → slot-of (name i) ≡ slot → i < link
+
+pub record Table (program output : Bytes) (table : List ℕ) : Type 0 where
+  pub program-size : length program ≤ text-size
+  pub output-size : length output ≤ text-size
+  pub size : table-size ≤ length table
+  pub room : count table ≤ most-names
+  pub distinct : Distinct (names-of program output table)
+  pub heads : (slot : ℕ) → slot < slots → Latest (name-at program output table) slot (count table) (head table slot)
+  pub links : (i : ℕ) → i < count table → Latest (name-at program output table) (slot-of (name-at program output table i)) i (link table i)
+
+-- ---- a row more
+
+-- there is room for it, and what it holds fits
+pub record Addable (table : List ℕ) (slot : ℕ) (place : Place) : Type 0 where
+  pub size : table-size ≤ length table
+  pub room : count table < most-names
+  pub in-slots : slot < slots
+  pub start-fits : place .start < limit
+  pub len-fits : place .len < limit
+  pub link-fits : head table slot < limit
+
+-- its link is its slot's head, and then the head is one more than its number
+unfoldable pub with-row : List ℕ → ℕ → Place → List ℕ
+with-row table slot place =
+    let n = count table in
+    set (set (set (set (set table (row n) (place .start)) (row n + 1) (place .len)) (row n + 2) (head table slot)) (slot + 1) (n + 1)) 0 (n + 1)

@@ -1,0 +1,18 @@
+-- A place in the two lent texts: the output counts on behind the program.
+use Prim.Native.Nat.{ℕ, _-_}
+use mathlib.Core.Bool.{cond}
+use lib.Dec.{ltb}
+use lib.ListN.{length}
+use Rattle.lexis.specs.declared.Place.{Place}
+use Rattle.lexis.specs.Tokens.{part}
+use Rattle.meaning.specs.Rules.{Bytes}
+
+abbrev pub place-at : ℕ → ℕ → Place
+place-at start len = record { start = start; len = len }
+
+-- the bytes of a place: in the program where it starts there, else in the output
+unfoldable pub bytes-at : Bytes → Bytes → Place → Bytes
+bytes-at program output place =
+    cond (ltb (place .start) (length program))
+    (part program place)
+    (part output (place-at (place .start - length program) (place .len)))

@@ -1,0 +1,110 @@
+// The table of names, in one slice: how many there are, the head of each slot, and a row for each name.
+ghost use mathlib.Core.Path.{_≡_};
+ghost use Prim.Native.Nat.{_≤_, _<_};
+ghost use lib.ListN.{length, getD, set};
+ghost use Rattle.names.specs.Table.{slots, most-names, table-size, limit, slot-of, count, head, link, place-of, with-row, Addable};
+use lexis::Place;
+
+const COUNT: usize = 0;
+
+const FIRST_HEAD: usize = 1;
+
+const SLOTS: usize = 4096;
+
+pub const FIRST_ROW: usize = FIRST_HEAD + SLOTS;
+
+// The numbers of a row: where the name's bytes start, how many they are, and the link to an earlier name of its slot.
+pub const ROW: usize = 3;
+
+const LEN: usize = 1;
+
+const LINK: usize = 2;
+
+// Any odd number spreads the bytes over the slots; with this one few names share a slot.
+const FACTOR: usize = 241;
+
+fn wide(byte: u8) -> usize
+    ensures { λ r. ⌜ (r ≡ byte) × (r < 256) ⌝ }
+{
+    byte as usize
+}
+
+// The slot of a name, a hash of its bytes.
+pub fn slot_of(name: &[u8]) -> usize
+    ensures { λ r. ⌜ r ≡ slot-of (now (name .entry)) ⌝ }
+{
+    let mut slot: usize = 0;
+    let mut i: usize = 0;
+    while i < name.len() {
+        slot = (slot * FACTOR + wide(name[i])) % SLOTS;
+        i += 1;
+    }
+    slot
+}
+
+// The number at a place of the table.
+fn number_at(table: &[u32], at: usize) -> usize
+    requires { ⌜ at < length (now table) ⌝ }
+    ensures { λ r. ⌜ r ≡ getD (now (table .entry)) at 0 ⌝ }
+{
+    table[at] as usize
+}
+
+// How many names there are.
+pub fn count(table: &[u32]) -> usize
+    requires { ⌜ table-size ≤ length (now table) ⌝ }
+    ensures { λ r. ⌜ r ≡ count (now (table .entry)) ⌝ }
+{
+    number_at(table, COUNT)
+}
+
+// One more than the number of the last name in a slot, or 0.
+pub fn head(table: &[u32], slot: usize) -> usize
+    requires { ⌜ (table-size ≤ length (now table)) × (slot < slots) ⌝ }
+    ensures { λ r. ⌜ r ≡ head (now (table .entry)) slot ⌝ }
+{
+    number_at(table, slot + FIRST_HEAD)
+}
+
+// One more than the number of the name before this one in its slot, or 0.
+pub fn link(table: &[u32], number: usize) -> usize
+    requires { ⌜ (table-size ≤ length (now table)) × (number < most-names) ⌝ }
+    ensures { λ r. ⌜ r ≡ link (now (table .entry)) number ⌝ }
+{
+    number_at(table, FIRST_ROW + number * ROW + LINK)
+}
+
+// Where a name's bytes stand in the two texts.
+pub fn place(table: &[u32], number: usize) -> Place
+    requires { ⌜ (table-size ≤ length (now table)) × (number < most-names) ⌝ }
+    ensures { λ r. ⌜ r ≡ place-of (now (table .entry)) number ⌝ }
+{
+    let at = FIRST_ROW + number * ROW;
+    Place {
+        start: number_at(table, at),
+        len: number_at(table, at + LEN),
+    }
+}
+
+// The number at a place of the table is another.
+fn put(table: &mut [u32], at: usize, number: usize)
+    requires { ⌜ (at < length (now table)) × (number < limit) ⌝ }
+    ensures { λ _. ⌜ now (table .exit) ≡ set (now (table .entry)) at number ⌝ }
+{
+    table[at] = number as u32;
+}
+
+// A row more, for a name at a place: its link is the head of its slot, and then the head is one more than its number.
+pub fn add(table: &mut [u32], slot: usize, place: Place)
+    requires { ⌜ Addable (now table) slot place ⌝ }
+    ensures { λ _. ⌜ now (table .exit) ≡ with-row (now (table .entry)) slot place ⌝ }
+{
+    let number = count(&*table);
+    let link = head(&*table, slot);
+    let at = FIRST_ROW + number * ROW;
+    put(table, at, place.start);
+    put(table, at + LEN, place.len);
+    put(table, at + LINK, link);
+    put(table, slot + FIRST_HEAD, number + 1);
+    put(table, COUNT, number + 1);
+}
