@@ -10,4 +10,3 @@ pub mod Standing
 pub mod Firsts
 pub mod Slots
 pub mod Before
-pub mod Bytes

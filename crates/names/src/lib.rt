@@ -6,11 +6,10 @@ ghost use Rattle.names.specs.Texts.{bytes-at};
 ghost use Rattle.names.specs.Table.{Table, names-of, bytes-of, slot-of};
 ghost use Rattle.names.specs.Numbering.{Empty, Finds, Interns};
 use lexis::Place;
-use name::same_bytes;
 use order::comes_before;
+use rule::name::same_bytes;
 use text::bytes_at;
 
-pub mod name;
 pub mod order;
 mod table;
 pub mod text;

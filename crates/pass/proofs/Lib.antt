@@ -1,0 +1,4 @@
+pub mod Choices
+pub mod Seeking
+pub mod Starts
+pub mod Outcomes

@@ -1,0 +1,4 @@
+pub mod Taking
+pub mod Pushing
+pub mod Stamping
+pub mod Running

@@ -1,0 +1,102 @@
+-- When a literal's operation leaves the range, by the code of its right side.
+use mathlib.Core.Path.{_≡_, refl, sym, ap, _∙_}
+use mathlib.Core.Bool.{Bool, true, false, not, _||_, cond, true≢false}
+use mathlib.Core.Option.{Option, none, some}
+use mathlib.Core.List.{List, [], _∷_}
+use Prim.Native.Nat.{ℕ, suc, _+_, _-_, _≤_, _<_}
+use native.Mathlib.Omega.{arith}
+use native.Mathlib.Numerals.{add-one}
+use borrow.Author.Tests.{eqb-true, eqb-false, eq-eqb, ne-eqb}
+use lib.Dec.{eqb}
+use Rattle.meaning.specs.Sets.{any}
+use Rattle.meaning.specs.Domain.{Domain}
+use Rattle.meaning.specs.Rules.{Bytes, Literal, positive, negated, builtin, Side, plain, computed}
+use Rattle.meaning.specs.Matchings.{Values, operate?, value?, side?}
+use Rattle.meaning.specs.Quick.{unfit, side-overflows, literal-overflows}
+use Rattle.meaning.proofs.Booleans.{or-cases}
+use Rattle.codes.specs.Codes.{no-value, beyond}
+use Rattle.codes.specs.Domains.{codes, code-in-range}
+use Rattle.tables.specs.Rows.{from, literal-column, no-operation, side-at, literal-at}
+use Rattle.tables.specs.WellFormed.{has-operation}
+use Rattle.tables.proofs.Strides.{from-more, from-end}
+use Rattle.binding.specs.Bindings.{slot, values-of}
+use Rattle.binding.specs.declared.Bindings.{Bindings}
+use Rattle.sides.specs.Right.{Right}
+
+unfit-slot : (c : ℕ) → unfit code-in-range (slot c) ≡ eqb c beyond
+unfolding unfit code-in-range slot
+unfit-slot c = go (eqb c no-value) refl
+  where
+    twice : (t : Bool) → not (not t) ≡ t
+    twice true = refl
+    twice false = refl
+
+    go : (t : Bool) → eqb c no-value ≡ t → unfit code-in-range (cond t none (some c)) ≡ eqb c beyond
+    go true e = rw (eqb-true c no-value e)
+    go false e = twice (eqb c beyond)
+
+module _ (names : List Bytes) (literals : List ℕ) (l : ℕ) (b : Bindings) where
+  pub classical-stays : literal-column literals l 0 < 2 → literal-overflows (codes names) code-in-range (values-of b) (literal-at literals l) ≡ false
+  unfolding literal-at literal-overflows
+  classical-stays h = go (eqb (literal-column literals l 0) 0) (eqb (literal-column literals l 0) 1) refl refl
+    where
+      go : (s t : Bool) → eqb (literal-column literals l 0) 0 ≡ s → eqb (literal-column literals l 0) 1 ≡ t → literal-overflows (codes names) code-in-range (values-of b) (literal-at literals l) ≡ false
+      go true t e f = rw e
+      go false true e f = rw (e, f)
+      go false false e f = let p = eqb-false (literal-column literals l 0) 0 e in let q = eqb-false (literal-column literals l 0) 1 f in absurd (omega arith)
+
+  module _ (h : 2 ≤ literal-column literals l 0) where
+    not-positive : eqb (literal-column literals l 0) 0 ≡ false
+    not-positive = ne-eqb (literal-column literals l 0) 0 (λ e. omega arith)
+
+    not-negated : eqb (literal-column literals l 0) 1 ≡ false
+    not-negated = ne-eqb (literal-column literals l 0) 1 (λ e. omega arith)
+
+    pub plain-stays : literal-column literals l 3 ≡ no-operation → literal-overflows (codes names) code-in-range (values-of b) (literal-at literals l) ≡ false
+    unfolding literal-at literal-overflows side-overflows side-at
+    plain-stays e = rw (not-positive, not-negated, eq-eqb (literal-column literals l 3) no-operation e)
+
+    pub computed-leaves : (literal-column literals l 3 ≡ no-operation → ⊥) → (r : ℕ) → Right names literals l b r → eqb r beyond ≡ literal-overflows (codes names) code-in-range (values-of b) (literal-at literals l)
+    unfolding literal-at literal-overflows side-overflows side-at side?
+    computed-leaves n r q =
+        let t = ne-eqb (literal-column literals l 3) no-operation n in
+        rw (not-positive, not-negated, t) (sym (unfit-slot r) ∙ ap (unfit code-in-range) (rw t at (q .partial)))
+
+-- ---- a test of some literal, by place
+
+module _ (f : Literal ℕ → Bool) (literals : List ℕ) (end l : ℕ) where
+  abbrev pub left-over : ℕ → Bool
+  left-over k = any f (from (literal-at literals) (end - k) k)
+
+  pub some-here : l < end → f (literal-at literals l) ≡ true → left-over l ≡ true
+  unfolding any
+  some-here h e = rw (from-more (literal-at literals) end l h, e)
+
+  pub some-later : l < end → f (literal-at literals l) ≡ false → left-over l ≡ left-over (l + 1)
+  unfolding any
+  some-later h e = rw (from-more (literal-at literals) end l h, e, add-one)
+
+  pub some-end : end ≤ l → left-over l ≡ false
+  unfolding any
+  some-end h = rw (from-end (literal-at literals) end l h)
+
+-- ---- without an operation nothing leaves the range
+
+module _ {U : Type 0} (D : Domain U) (fits : U → Bool) (ρ : Values U) where
+  one-stays : (x : Literal U) → has-operation x ≡ false → literal-overflows D fits ρ x ≡ false
+  unfolding has-operation literal-overflows side-overflows
+  one-stays (positive a) h = refl
+  one-stays (negated a) h = refl
+  one-stays (builtin c t (plain u)) h = refl
+  one-stays (builtin c t (computed u o v)) h = absurd (true≢false h)
+
+  or-false : (a b : Bool) → (a || b) ≡ false → (a ≡ false) × (b ≡ false)
+  or-false true b h = absurd (true≢false h)
+  or-false false b h = (refl, h)
+
+  pub none-leaves : (ls : List (Literal U)) → any has-operation ls ≡ false → any (literal-overflows D fits ρ) ls ≡ false
+  unfolding any
+  none-leaves [] h = refl
+  none-leaves (x ∷ xs) h =
+      let q = or-false (has-operation x) (any has-operation xs) h in
+      rw (one-stays x (q .0)) (none-leaves xs (q .1))

@@ -1,0 +1,66 @@
+// The tables that the engine works on: rows of numbers at fixed strides, lent by the caller. What they stand for is in specs.
+
+// The numbers of a fact: its predicate, and 8 columns for its arguments.
+pub const FACT: usize = 9;
+
+// Where a fact's arguments start.
+pub const ARGUMENTS: usize = 1;
+
+// A predicate's number ends in its arity.
+pub const ARITIES: u64 = 9;
+
+// The numbers of a literal: its sort, predicate, comparison and operation, and 8 columns for its terms.
+pub const LITERAL: usize = 12;
+
+pub const SORT: usize = 0;
+
+pub const PREDICATE: usize = 1;
+
+pub const COMPARISON: usize = 2;
+
+pub const OPERATION: usize = 3;
+
+pub const TERMS: usize = 4;
+
+// The two terms on the right of a built-in; its left one is the first of the terms.
+pub const FIRST: usize = 5;
+
+pub const SECOND: usize = 6;
+
+// The sorts of literals.
+pub const POSITIVE: u64 = 0;
+
+pub const NEGATED: u64 = 1;
+
+pub const BUILTIN: u64 = 2;
+
+pub const HEAD: u64 = 3;
+
+// A built-in without an operation.
+pub const NO_OPERATION: u64 = 3;
+
+// The numbers of a rule: its head's literal, first body literal, how many, whether it has an operation, how many equations bind, how many
+// literals are positive, and 16 places for each of the last two.
+pub const RULE: usize = 40;
+
+pub const HEAD_LITERAL: usize = 0;
+
+pub const FIRST_LITERAL: usize = 1;
+
+pub const LITERALS: usize = 2;
+
+pub const HAS_OPERATION: usize = 3;
+
+pub const EQUATIONS: usize = 4;
+
+pub const POSITIVES: usize = 5;
+
+pub const EQUATION_PLACES: usize = 6;
+
+pub const POSITIVE_PLACES: usize = 22;
+
+// A rule without a head.
+pub const NO_LITERAL: u64 = 65_535;
+
+// The numbers of a name: where its bytes start, and how many they are.
+pub const NAME: usize = 2;
