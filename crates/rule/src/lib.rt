@@ -12,7 +12,7 @@ pub const MOST_ARGUMENTS: usize = 8;
 // Literals in a body, at most.
 pub const MOST_LITERALS: usize = 16;
 
-// Variables of a rule, at most.
+// Variables of a rule, at most, each `_` counting.
 pub const MOST_VARIABLES: usize = 16;
 
 // A term: the number of its token's kind, where the token stands, a number's sign and value, a variable's number in the rule.

@@ -88,7 +88,7 @@ signs-agree End b l h = absurd (omega arith)
 signs-agree Stray b l h = absurd (omega arith)
 
 -- an operation meets no variable
-no-variable : (vs : Names) (o : Operation) → meet vs (Token.symbol (spell-operation o)) ≡ vs
+pub no-variable : (vs : Names) (o : Operation) → meet vs (Token.symbol (spell-operation o)) ≡ vs
 unfolding meet meet-symbol spell-operation
 no-variable vs plus = refl
 no-variable vs minus = refl

@@ -13,3 +13,4 @@ pub mod Bodies
 pub mod Rules
 pub mod Programs
 pub mod Written
+pub mod Numbered

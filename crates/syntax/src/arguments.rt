@@ -9,10 +9,8 @@ use crate::token::token_at;
 use lexis::Place;
 use lexis::kind::CLOSE;
 use rule::Arguments;
+use rule::MOST_ARGUMENTS;
 use rule::Variables;
-
-// The most arguments of an atom.
-pub const MOST_ARGUMENTS: usize = 8;
 
 // Arguments, and the variables met behind them.
 pub struct ArgumentsRead {

@@ -11,11 +11,9 @@ use lexis::Place;
 use lexis::kind::DOT;
 use lexis::kind::IF;
 use rule::Atom;
+use rule::MOST_LITERALS;
 use rule::Rule;
 use rule::Variables;
-
-// The most literals of a body.
-pub const MOST_LITERALS: usize = 16;
 
 // A rule, or, where `ended`, none, because the text ends.
 pub struct RuleRead {

@@ -17,15 +17,13 @@ use lexis::kind::NUMBER;
 use lexis::kind::VARIABLE;
 use lexis::number::MOST_NUMBER;
 use lexis::number::value;
+use rule::MOST_VARIABLES;
 use rule::Term;
 use rule::Variables;
 use rule::name::part;
 
 // The most bytes of a name or a variable.
 pub const MOST_BYTES: usize = 64;
-
-// The most variables of a rule, each `_` counting.
-pub const MOST_VARIABLES: usize = 16;
 
 // The numbers of refusal: a token that the grammar can't have there, a number over its size, another size passed.
 pub const WRONG: u8 = 2;

@@ -1,3 +1,4 @@
+-- `Rule::head_only` meets its contract. Assumes nothing.
 use borrow.Author.Needs.{needs}
 use Rattle.rule.proofs.Rule.head_only.Statement.{statement}
 use Rattle.rule.proofs.Rule.head_only.Tie as tie

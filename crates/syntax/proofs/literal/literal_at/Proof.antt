@@ -1,6 +1,6 @@
+-- `literal::literal_at` meets its contract: one law for each way through it. Assumes nothing.
 use Rattle.syntax.proofs.Tokens.{within}
 use mathlib.Core.Bool.{false}
--- `literal::literal_at` meets its contract: one law for each way through it. Assumes nothing.
 use Rattle.syntax.proofs.Readings.{reads-fits}
 use Rattle.syntax.proofs.Literals.{not-over, not-goes, minus-over, minus-goes, literal-wrong, literal-compared}
 use borrow.Author.Needs.{needs}

@@ -1,3 +1,4 @@
+-- `token::token_at` meets its contract: the token lies inside the text, so its end fits. Assumes nothing.
 use native.Mathlib.Omega.{arith}
 use Rattle.syntax.proofs.Tokens.{as-read, read-inside}
 use borrow.Author.Needs.{needs}

@@ -1,0 +1,8 @@
+pub mod Digits
+pub mod Proper
+pub mod Ends
+pub mod Again
+pub mod Inside
+pub mod Theorems
+pub mod RuleBytes
+pub mod Prefixes

@@ -1,0 +1,4 @@
+-- In the order to read them in.
+pub mod PlainRules
+pub mod PlainBytes
+pub mod RuleBytes

@@ -1,0 +1,145 @@
+-- `put::put_number` meets its contract: the digits of a tenth, and the last digit. The measure is the number. Assumes nothing.
+use Rattle.plainrule.proofs.Puts.{put-then, put-length, digit-room, tens-room, last-room, put-digit, put-digits}
+use native.Mathlib.Omega.{arith}
+use Rattle.plainform.proofs.Digits.{tenth}
+use borrow.Author.Needs.{needs}
+use Prim.Native.Nat.{ℕ, _<_}
+use borrow.Fn.Kinds.{In}
+use borrow.Fn.PlainCycle.{Measures, is, falls, and}
+use Rattle.plainrule.proofs.put.put_number.Reads as put-number
+use Rattle.plainrule.proofs.put.put_number.Kinds as put-number-kinds
+use Rattle.plainrule.proofs.put.+put_number.Lts-put_number as put-number-lts
+use Rattle.plainrule.proofs.put.put_byte.Reads as put-byte-reads
+use Rattle.plainrule.proofs.put.+put_number.{statement}
+use Rattle.plainrule.proofs.put.+put_number.Tie.{close}
+
+abbrev μ-put-number : Measures 1 put-number-kinds.ps ℕ
+μ-put-number κs a = a .1 .1 .0
+
+abbrev put-number-at : ℕ → In 1 put-number-kinds.ps
+put-number-at t =
+    and 1 put-number-kinds.ps (is 1 put-number-kinds.ps μ-put-number t) put-number.Pre
+
+abbrev put-number-below : ℕ → In 1 put-number-kinds.ps
+put-number-below t =
+    and 1 put-number-kinds.ps (falls 1 put-number-kinds.ps _<_ μ-put-number t) put-number.Pre
+
+-- src/put.rt:38:45
+put-number-cast-put-byte : (t : ℕ) → put-number-lts.Need-cast-put-byte (
+  put-byte-reads.Asked,
+  put-byte-reads.Learnt,
+  put-number-below t,
+  put-number.Post,
+) (put-number-at t) put-number.Post
+put-number-cast-put-byte t c = search needs
+
+-- src/put.rt:38:37
+put-number-add-put-byte : (t : ℕ) → put-number-lts.Need-add-put-byte (
+  put-byte-reads.Asked,
+  put-byte-reads.Learnt,
+  put-number-below t,
+  put-number.Post,
+) (put-number-at t) put-number.Post
+put-number-add-put-byte t c = search needs
+
+-- src/put.rt:38:9
+put-number-put-byte-requires : (t : ℕ) → put-number-lts.Need-put-byte-requires (
+  put-byte-reads.Asked,
+  put-byte-reads.Learnt,
+  put-number-below t,
+  put-number.Post,
+) (put-number-at t) put-number.Post
+put-number-put-byte-requires t c κs = digit-room (c .before .before .before .args .at) (c .before .before .before .args .number) (c .before .before .before .pre .1) (c .before .if1 .taken)
+
+-- src/put.rt:38:9
+put-number-same-length : (t : ℕ) → put-number-lts.Need-same-length (
+  put-byte-reads.Asked,
+  put-byte-reads.Learnt,
+  put-number-below t,
+  put-number.Post,
+) (put-number-at t) put-number.Post
+put-number-same-length t c = put-length (c .before .before .put-byte .ensures)
+
+-- src/put.rt:38:9
+put-number-returns : (t : ℕ) → put-number-lts.Need-returns (
+  put-byte-reads.Asked,
+  put-byte-reads.Learnt,
+  put-number-below t,
+  put-number.Post,
+) (put-number-at t) put-number.Post
+put-number-returns t c = put-digit (c .before .before .before .before .before .before .args .number) (c .before .before .before .before .if1 .taken) (c .before .before .put-byte .ensures)
+
+-- src/put.rt:40:9
+put-number-put-number-requires : (t : ℕ) → put-number-lts.Need-put-number-requires (
+  put-byte-reads.Asked,
+  put-byte-reads.Learnt,
+  put-number-below t,
+  put-number.Post,
+) (put-number-at t) put-number.Post
+put-number-put-number-requires t c κs = (omega (arith, tenth (c .before .before .before .args .number) (c .before .if1 .left), c .before .before .before .pre .0), tens-room (c .before .before .before .args .at) (c .before .before .before .args .number) (c .before .before .before .pre .1) (c .before .if1 .left))
+
+-- src/put.rt:41:36
+put-number-cast-put-byte-2 : (t : ℕ) → put-number-lts.Need-cast-put-byte-2 (
+  put-byte-reads.Asked,
+  put-byte-reads.Learnt,
+  put-number-below t,
+  put-number.Post,
+) (put-number-at t) put-number.Post
+put-number-cast-put-byte-2 t c = search needs
+
+-- src/put.rt:41:28
+put-number-add-put-byte-2 : (t : ℕ) → put-number-lts.Need-add-put-byte-2 (
+  put-byte-reads.Asked,
+  put-byte-reads.Learnt,
+  put-number-below t,
+  put-number.Post,
+) (put-number-at t) put-number.Post
+put-number-add-put-byte-2 t c = search needs
+
+-- src/put.rt:41:5
+put-number-put-byte-requires-2 : (t : ℕ) → put-number-lts.Need-put-byte-requires-2 (
+  put-byte-reads.Asked,
+  put-byte-reads.Learnt,
+  put-number-below t,
+  put-number.Post,
+) (put-number-at t) put-number.Post
+put-number-put-byte-requires-2 t c κs = last-room (c .before .before .before .before .before .before .before .args .at) (c .before .before .before .before .before .before .before .args .number) (c .before .before .before .before .before .before .before .pre .1) (c .before .before .before .before .before .if1 .left) (c .before .before .before .put-number .ensures)
+
+-- src/put.rt:33:1
+put-number-same-length-2 : (t : ℕ) → put-number-lts.Need-same-length-2 (
+  put-byte-reads.Asked,
+  put-byte-reads.Learnt,
+  put-number-below t,
+  put-number.Post,
+) (put-number-at t) put-number.Post
+put-number-same-length-2 t c = put-length (put-then (c .before .before .before .before .before .before .put-number .ensures) (c .before .before .put-byte2 .ensures))
+
+-- src/put.rt:33:1
+put-number-returns-2 : (t : ℕ) → put-number-lts.Need-returns-2 (
+  put-byte-reads.Asked,
+  put-byte-reads.Learnt,
+  put-number-below t,
+  put-number.Post,
+) (put-number-at t) put-number.Post
+put-number-returns-2 t c = put-digits (c .before .before .before .before .before .before .before .before .before .before .args .number) (c .before .before .before .before .before .before .before .before .if1 .left) (c .before .before .before .before .before .before .put-number .ensures) (c .before .before .put-byte2 .ensures)
+
+pub +put-number-spec : {M : Type 1} → statement M
++put-number-spec = close μ-put-number λ t. put-number-lts.spec (
+  put-byte-reads.Asked,
+  put-byte-reads.Learnt,
+  put-number-below t,
+  put-number.Post,
+)
+    (put-number-at t)
+    put-number.Post
+    (put-number-cast-put-byte t)
+    (put-number-add-put-byte t)
+    (put-number-put-byte-requires t)
+    (put-number-same-length t)
+    (put-number-returns t)
+    (put-number-put-number-requires t)
+    (put-number-cast-put-byte-2 t)
+    (put-number-add-put-byte-2 t)
+    (put-number-put-byte-requires-2 t)
+    (put-number-same-length-2 t)
+    (put-number-returns-2 t)

@@ -1,0 +1,19 @@
+-- Writing bytes into a lent buffer from a place on.
+use mathlib.Core.Path.{_≡_}
+use Prim.Native.Nat.{ℕ, _+_, _≤_}
+use lib.ListN.{length}
+use lib.Seq.{sets}
+use Rattle.meaning.specs.Rules.{Bytes}
+
+-- the most bytes of a program; its plain form has no more
+abbrev pub most-text : ℕ
+most-text = 65_536
+
+-- bytes from a place on end within that size
+abbrev pub Room : ℕ → Bytes → Type 0
+Room at bytes = at + length bytes ≤ most-text
+
+-- the bytes stand in the buffer from the place on, as far as it reaches; `after` is the place behind them, and `left` the buffer then
+pub record Put (buffer : Bytes) (at : ℕ) (bytes : Bytes) (after : ℕ) (left : Bytes) : Type 0 where
+  pub next : after ≡ at + length bytes
+  pub laid : left ≡ sets buffer at bytes

@@ -1,0 +1,55 @@
+// Bytes and numbers, written into a lent buffer as far as it reaches. The place is counted on past its end, so that a buffer
+// with no room at all gives the length.
+ghost use mathlib.Core.List.{[], _∷_};
+ghost use mathlib.Core.Path.{_≡_};
+ghost use Prim.Native.Nat.{min};
+ghost use Rattle.grammar.specs.Writing.{digits};
+ghost use Rattle.plainrule.specs.Put.{Room, Put};
+
+// The lesser of two numbers: how many of the things that a table has room for are counted.
+pub fn least(count: usize, most: usize) -> usize
+    ensures { λ r. ⌜ r ≡ min count most ⌝ }
+{
+    if count < most {
+        return count;
+    }
+    most
+}
+
+// One byte, stored where the buffer has a place for it.
+pub fn put_byte(buffer: &mut [u8], at: usize, byte: u8) -> usize
+    requires { ⌜ Room at (byte ∷ []) ⌝ }
+    ensures { λ r. ⌜ Put (now (buffer .entry)) at (byte ∷ []) r (now (buffer .exit)) ⌝ }
+{
+    if at < buffer.len() {
+        buffer[at] = byte;
+        return at + 1;
+    }
+    at + 1
+}
+
+// Bytes one after the other.
+pub fn put_bytes(buffer: &mut [u8], at: usize, bytes: &[u8]) -> usize
+    requires { ⌜ Room at (now bytes) ⌝ }
+    ensures { λ r. ⌜ Put (now (buffer .entry)) at (now (bytes .entry)) r (now (buffer .exit)) ⌝ }
+{
+    let mut next = at;
+    let mut i = 0;
+    while i < bytes.len() {
+        next = put_byte(buffer, next, bytes[i]);
+        i += 1;
+    }
+    next
+}
+
+// The digits of a number.
+pub fn put_number(buffer: &mut [u8], at: usize, number: u64) -> usize
+    requires { ⌜ Room at (digits number number) ⌝ }
+    ensures { λ r. ⌜ Put (now (buffer .entry)) at (digits number number) r (now (buffer .exit)) ⌝ }
+{
+    if number < 10 {
+        return put_byte(buffer, at, b'0' + (number as u8));
+    }
+    let next = put_number(buffer, at, number / 10);
+    put_byte(buffer, next, b'0' + ((number % 10) as u8))
+}
