@@ -1,6 +1,6 @@
 -- What the meaning asks of the values that stand in facts: a later kind of value changes Values.antt and nothing here.
 use mathlib.Core.Path.{_≡_}
-use mathlib.Core.Bool.{Bool, true, false}
+use mathlib.Core.Bool.{Bool, true}
 use mathlib.Core.Option.{Option, none, some}
 
 -- = != < <= > >=

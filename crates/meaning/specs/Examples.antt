@@ -1,12 +1,12 @@
 -- Document 01's small examples T1 to T12, as rules and facts.
 use Prim.Native.Nat.{ℕ}
 use Prim.Native.String.{String}
-use mathlib.Core.Bool.{true, false}
-use mathlib.Core.Option.{Option, none, some}
+use mathlib.Core.Bool.{false}
+use mathlib.Core.Option.{none, some}
 use mathlib.Core.List.{List, [], _∷_}
 use lib.IntN.{pos}
 use Rattle.meaning.specs.Domain.{equal, plus}
-use Rattle.meaning.specs.Rules.{Term, constant, variable, Atom, Fact, Side, computed, Literal, positive, negated, builtin, Rule}
+use Rattle.meaning.specs.Rules.{Term, constant, variable, Atom, Fact, computed, Literal, positive, negated, builtin, Rule}
 use Rattle.meaning.specs.Values.{Value, number, name}
 use Rattle.meaning.specs.Verdicts.{accepted, unsatisfied, smaller}
 use Rattle.meaning.specs.Outcomes.{Outcome, out-of-range, verdict}

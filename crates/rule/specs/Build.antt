@@ -1,6 +1,6 @@
 -- How the parts of a rule by value are built: empty ones, and one more behind those that are there.
-use mathlib.Core.Bool.{Bool, true, false}
-use Prim.Native.Nat.{ℕ, _+_}
+use mathlib.Core.Bool.{Bool, false}
+use Prim.Native.Nat.{_+_}
 use lib.ListN.{set, replicate}
 use Rattle.lexis.specs.declared.Place.{Place}
 use Rattle.rule.specs.declared.Term.{Term}

@@ -1,5 +1,4 @@
 -- Rules in plain form: what a rule by value stands for. A variable has its name, as it is written, and its number in the rule.
-use mathlib.Core.Bool.{Bool}
 use mathlib.Core.Option.{Option, none, some}
 use mathlib.Core.List.{List, map}
 use Prim.Native.Nat.{ℕ}

@@ -1,6 +1,6 @@
 -- Classical atoms: where they stand, and what the functions that read them promise.
 use mathlib.Core.Path.{_≡_}
-use mathlib.Core.Bool.{Bool, true, false}
+use mathlib.Core.Bool.{Bool, false}
 use mathlib.Core.List.{[]}
 use Prim.Native.Nat.{ℕ, suc, _≤_}
 use Rattle.lexis.specs.declared.Place.{Place}

@@ -1,7 +1,7 @@
 -- Rules: where they stand, and what the functions that read them promise.
 use mathlib.Core.Path.{_≡_}
 use mathlib.Core.Bool.{Bool, true, false}
-use mathlib.Core.Option.{Option, none, some}
+use mathlib.Core.Option.{Option}
 use mathlib.Core.List.{List, [], _++_, map}
 use Prim.Native.Nat.{ℕ, suc, _-_, _≤_}
 use lib.ListN.{length, take}
@@ -9,10 +9,10 @@ use Rattle.lexis.specs.declared.Place.{Place}
 use Rattle.reading.specs.Reading.{Answer, tree, refused}
 use Rattle.reading.specs.Machine.{walk}
 use Rattle.meaning.specs.Rules.{Bytes}
-use Rattle.grammar.specs.Trees.{Free, Sequence, _then_, count, Atom as AtomTree, Literal as LiteralTree, Rule as Tree, fact, clause, Program}
+use Rattle.grammar.specs.Trees.{Sequence, _then_, count, Atom as AtomTree, Literal as LiteralTree, Rule as Tree, fact, clause, Program}
 use Rattle.grammar.specs.Spelling.{inside, rule, with-commas, spell-nth-literal, spell-atom}
 use Rattle.grammar.specs.Variables.{met}
-use Rattle.grammar.specs.Sizes.{most-literals, too-many, language}
+use Rattle.grammar.specs.Sizes.{too-many, language}
 use Rattle.grammar.specs.States.{head-behind, literal-in, atom-wanted, closed}
 use Rattle.grammar.specs.Machine.{new-body, machine}
 use Rattle.rule.specs.declared.Atom.{Atom}

@@ -1,6 +1,6 @@
 -- Terms: where they stand, and what the functions that read them promise.
 use mathlib.Core.Path.{_≡_}
-use mathlib.Core.Bool.{Bool, true, false, cond}
+use mathlib.Core.Bool.{Bool, false, cond}
 use mathlib.Core.List.{List, [], _∷_}
 use Prim.Native.Nat.{ℕ, suc}
 use lib.Dec.{leb, ltb}
@@ -23,7 +23,7 @@ use Rattle.syntax.specs.declared.term.TermRead.{TermRead}
 use Rattle.syntax.specs.Text.{tokenRead}
 use Rattle.syntax.specs.Ahead.{wants}
 use Rattle.syntax.specs.Written.{plain-term}
-use Rattle.syntax.specs.Reads.{Production, Fits, Reads}
+use Rattle.syntax.specs.Reads.{Production, Reads}
 
 -- where a term is wanted that is one too many, or not
 pub record TermPlace (ground over : Bool) : Type 0 where

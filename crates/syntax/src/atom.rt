@@ -2,7 +2,6 @@
 ghost use mathlib.Core.Path.{_≡_};
 ghost use Prim.Native.Nat.{_≤_};
 ghost use lib.ListN.{length};
-ghost use Rattle.lexis.specs.Tokens.{part};
 ghost use Rattle.syntax.specs.Reads.{Fits};
 ghost use Rattle.syntax.specs.Atoms.{stoppedAtom, goneAtom, ReadsNamed, ReadsMinus, ReadsAtom};
 use crate::arguments::arguments_at;

@@ -1,8 +1,5 @@
 // A term: a name, a number, a number behind a minus, a variable or `_`.
 ghost use mathlib.Core.Path.{_≡_};
-ghost use Prim.Native.Nat.{_+_, _≤_};
-ghost use lib.ListN.{length};
-ghost use Rattle.rule.specs.Build.{noTerm};
 ghost use Rattle.syntax.specs.Reads.{Fits};
 ghost use Rattle.syntax.specs.Terms.{stoppedTerm, goneTerm, termOf, wordCode, numberTerm, ReadsVariable, ReadsAnonymous, ReadsNegative, ReadsTerm};
 use crate::token::Progress;

@@ -1,7 +1,6 @@
 // The number of a variable in its rule, by first occurrence.
 ghost use mathlib.Core.Path.{_≡_};
 ghost use mathlib.Core.List.{map};
-ghost use Prim.Native.Nat.{_≤_};
 ghost use lib.ListN.{take};
 ghost use Rattle.lexis.specs.Tokens.{part};
 ghost use Rattle.syntax.specs.Reads.{Fits};
