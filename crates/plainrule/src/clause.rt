@@ -7,12 +7,12 @@ ghost use Rattle.plainform.specs.RuleBytes.{commas, literal-bytes, head-bytes, 
 ghost use Rattle.plainrule.specs.Put.{Room, Put};
 use crate::literal::put_atom;
 use crate::literal::put_literal;
-use crate::put::least;
 use crate::put::put_byte;
 use crate::put::put_bytes;
 use rule::Atom;
 use rule::MOST_LITERALS;
 use rule::Rule;
+use rule::least;
 
 // The head, where there is one.
 fn put_head(buffer: &mut [u8], at: usize, text: &[u8], headed: bool, head: Atom) -> usize

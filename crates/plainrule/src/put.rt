@@ -2,19 +2,8 @@
 // with no room at all gives the length.
 ghost use mathlib.Core.List.{[], _∷_};
 ghost use mathlib.Core.Path.{_≡_};
-ghost use Prim.Native.Nat.{min};
 ghost use Rattle.grammar.specs.Writing.{digits};
 ghost use Rattle.plainrule.specs.Put.{Room, Put};
-
-// The lesser of two numbers: how many of the things that a table has room for are counted.
-pub fn least(count: usize, most: usize) -> usize
-    ensures { λ r. ⌜ r ≡ min count most ⌝ }
-{
-    if count < most {
-        return count;
-    }
-    most
-}
 
 // One byte, stored where the buffer has a place for it.
 pub fn put_byte(buffer: &mut [u8], at: usize, byte: u8) -> usize

@@ -5,7 +5,6 @@ ghost use lib.ListN.{take};
 ghost use Rattle.rule.specs.Stands.{signed, term-of, arguments-of};
 ghost use Rattle.plainform.specs.RuleBytes.{commas, minus-bytes, number-bytes, term-bytes, arguments-bytes};
 ghost use Rattle.plainrule.specs.Put.{Room, Put};
-use crate::put::least;
 use crate::put::put_byte;
 use crate::put::put_bytes;
 use crate::put::put_number;
@@ -15,6 +14,7 @@ use lexis::kind::VARIABLE;
 use rule::Arguments;
 use rule::MOST_ARGUMENTS;
 use rule::Term;
+use rule::least;
 use rule::name::part;
 
 // A minus, where there is one.

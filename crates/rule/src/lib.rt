@@ -1,6 +1,6 @@
 // A rule by value: its terms, atoms and literals, and where they stand in the text.
 ghost use mathlib.Core.Path.{_≡_};
-ghost use Prim.Native.Nat.{_<_};
+ghost use Prim.Native.Nat.{min, _<_};
 ghost use Rattle.rule.specs.Build.{noTerm, noArguments, noAtom, noLiteral, noVariables, noRule, withTerm, withPlace, withLiteral, headOnly};
 use lexis::Place;
 
@@ -14,6 +14,16 @@ pub const MOST_LITERALS: usize = 16;
 
 // Variables of a rule, at most, each `_` counting.
 pub const MOST_VARIABLES: usize = 16;
+
+// How many of a table's things there are, where it has room for `most` of them.
+pub fn least(count: usize, most: usize) -> usize
+    ensures { λ r. ⌜ r ≡ min count most ⌝ }
+{
+    if count < most {
+        return count;
+    }
+    most
+}
 
 // A term: the number of its token's kind, where the token stands, a number's sign and value, a variable's number in the rule.
 pub struct Term {

@@ -1,7 +1,6 @@
 // Sets of a rule's variables: those that stand in its positive atoms, and the terms that a set binds.
 ghost use mathlib.Core.Path.{_≡_};
 ghost use mathlib.Core.List.{foldl};
-ghost use Prim.Native.Nat.{min};
 ghost use lib.ListN.{take};
 ghost use Rattle.safety.specs.Scanned.{bitsOf};
 ghost use Rattle.safety.specs.Bits.{noBits, isVariable, marked, markedLiteral, termBound};
@@ -14,20 +13,11 @@ use rule::MOST_LITERALS;
 use rule::MOST_VARIABLES;
 use rule::Rule;
 use rule::Term;
+use rule::least;
 
 // Of each variable of a rule, by its number, whether it is bound.
 pub struct Bound {
     pub bits: [bool; MOST_VARIABLES],
-}
-
-// How many there are where there is room for `most` of them.
-pub fn least(count: usize, most: usize) -> usize
-    ensures { λ r. ⌜ r ≡ min count most ⌝ }
-{
-    if count < most {
-        return count;
-    }
-    most
 }
 
 // A term is a variable where it is no name and no number.

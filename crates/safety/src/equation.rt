@@ -5,12 +5,12 @@ ghost use lib.ListN.{take};
 ghost use Rattle.safety.specs.Scanned.{bitsOf};
 ghost use Rattle.safety.specs.Bits.{sideBound, gains, firstGain, withEquation};
 use crate::bound::Bound;
-use crate::bound::least;
 use crate::bound::term_bound;
 use lexis::kind::EQUAL;
 use rule::Literal;
 use rule::MOST_LITERALS;
 use rule::Rule;
+use rule::least;
 
 // What is bound, and where in the body the equations stand that bind: the first `count` of the places, in the order in which they do.
 pub struct Scan {

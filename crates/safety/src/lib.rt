@@ -5,7 +5,6 @@ ghost use Rattle.meaning.specs.Safety.{bound};
 ghost use Rattle.safety.specs.Scanned.{meant, Numbered, Scanned};
 ghost use Rattle.safety.specs.Unbound.{FirstUnbound};
 use bound::in_positives;
-use bound::least;
 use equation::Scan;
 use equation::first_gain;
 use equation::with_equation;
@@ -13,6 +12,7 @@ use lexis::Place;
 use rule::MOST_LITERALS;
 use rule::MOST_VARIABLES;
 use rule::Rule;
+use rule::least;
 
 pub mod bound;
 pub mod equation;
