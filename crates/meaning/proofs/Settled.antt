@@ -79,10 +79,10 @@ module _ {U : Type 0} (D : Domain U) (laws : Laws D) (P : List (Rule U)) (I : Li
       let t = same-each xs js ks (p .1) (q .1) in
       cc (e, t)
 
-  first-breaks : (m : ℕ) (ps : List ℕ) → First (BrokenAt D I) P m ps → Broken D P I
+  pub first-breaks : (m : ℕ) (ps : List ℕ) → First (BrokenAt D I) P m ps → Broken D P I
   first-breaks m ps f = record { rule = f .rule; is-rule = at-in P m (f .rule) (f .is-rule); substitution = f .here .substitution; body = f .here .body; no-head = f .here .no-head }
 
-  not-both : (bs : List Bool) → Accepted D P I → MeansSmaller D P I bs → ⊥
+  pub not-both : (bs : List Bool) → Accepted D P I → MeansSmaller D P I bs → ⊥
   not-both bs a s = true≢false (sym (a .minimal (s .set) (s .inside) (s .satisfies) (s .left-out) (in-member D laws I (s .left-out) (s .is-candidate))) ∙ s .proper)
 
   pub means-unique : (v w : Verdict) → Means D P I v → Means D P I w → v ≡ w

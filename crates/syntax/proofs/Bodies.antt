@@ -142,13 +142,13 @@ module _ (text : Bytes) (at₀ : ℕ) (headed : Bool) (a : Atom) (v₀ : Variabl
       unfolding after-literal try fire either when symbol-number too-big too-long too-many too-many-variables is-underscore
       going-end z l w ew = rw ew (go gs)
         where
-          dotted : t .kind ≡ 8 → (p : Program false) (h : Option (AtomTree false)) → (from false text (behind-literal (body-with p h (g .literals)) (grown .one)) (b .variables) (r .progress .next) .answer ≡ walk (language false) (wanting false) (wants (atom-wanted (head-behind (with-rule (body-with p h (g .literals)) (grown .one))))) [] (end-of text) (placed-from false text (t .next))) × (from false text (behind-literal (body-with p h (g .literals)) (grown .one)) (b .variables) (r .progress .next) .firsts ≡ places-of (b .variables))
+          dotted : t .kind ≡ 8 → (p : Program false) (h : Option (AtomTree false)) → (from false text (behind-literal (body-with p h (g .literals)) (grown .one)) (b .variables) (r .progress .next) .answer ≡ walk (language false) (wanting false) (wants (atom-wanted (head-behind (with-rule (body-with p h (g .literals)) (grown .one))))) [] (end-of text) (placed-from false text (t .next))) × (from false text (behind-literal (body-with p h (g .literals)) (grown .one)) (b .variables) (r .progress .next) .firsts ≡ places-of (b .variables)) × (from false text (behind-literal (body-with p h (g .literals)) (grown .one)) (b .variables) (r .progress .next) .rest ≡ some (placed-from false text (t .next)))
           dotted k p h = dot-token false text (r .progress .next) t refl k (behind-literal (body-with p h (g .literals)) (grown .one)) (b .variables) (record { mark = inside; state = atom-wanted (head-behind (with-rule (body-with p h (g .literals)) (grown .one))) }) refl (fault-none _ _ _ _ refl refl refl refl)
 
           go : Separates false text (r .progress .next) 8 s → ReadsBody text at₀ headed a v₀ (goneRule b (s .progress .next))
           go (comma k q) = absurd (false≢true (rw q at l))
           go (neither k k′ q) = absurd (false≢true (rw q at l))
-          go (last k q) = rw q (ReadsBody.read refl (record { going = refl; inside = within false text (r .progress .next) t refl; fits = grown .fits; has-head = grown .has-head; head = grown .head; literals = g .literals; final = grown .one; plain = grown .plain; names = grown .names; walks = λ p h. ap (λ y. y .answer) (grown .walks p h) ∙ dotted k p h .0 ∙ inv (same-walk false _ _ [] _); firsts = ap (λ y. y .firsts) (grown .walks empty none) ∙ dotted k empty none .1 }))
+          go (last k q) = rw q (ReadsBody.read refl (record { going = refl; inside = within false text (r .progress .next) t refl; fits = grown .fits; has-head = grown .has-head; head = grown .head; literals = g .literals; final = grown .one; plain = grown .plain; names = grown .names; walks = λ p h. ap (λ y. y .answer) (grown .walks p h) ∙ dotted k p h .0 ∙ inv (same-walk false _ _ [] _); firsts = ap (λ y. y .firsts) (grown .walks empty none) ∙ dotted k empty none .1; rest = ap (λ y. y .rest) (grown .walks empty none) ∙ dotted k empty none .2 }))
 
       -- a comma: one more is wanted
       pub going-on : s .progress .code ≡ 0 → s .last ≡ false → Going text at₀ headed a v₀ (s .progress .next) b

@@ -37,7 +37,7 @@ use Rattle.syntax.proofs.Written.{rule-meant}
 abbrev pub below : ℕ → ℕ → Bool
 below n x = ltb x n
 
-every-more : {A : Type 0} (f : A → Bool) (l : List A) (x : A) → every f l ≡ true → f x ≡ true → every f (l ▹ x) ≡ true
+pub every-more : {A : Type 0} (f : A → Bool) (l : List A) (x : A) → every f l ≡ true → f x ≡ true → every f (l ▹ x) ≡ true
 unfolding every
 every-more f [] x g h = rw h
 every-more f (y ∷ l) x g h = go (f y) refl g (λ k. every-more f l x k h)

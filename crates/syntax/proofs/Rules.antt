@@ -3,7 +3,7 @@ use mathlib.Core.Path.{_≡_, refl, sym as inv, ap, _∙_}
 use mathlib.Core.Bool.{Bool, true, false, true≢false, false≢true}
 use mathlib.Core.Logic.{_⊎_, inl, inr}
 use mathlib.Core.Option.{Option, none, some}
-use mathlib.Core.List.{List, [], _∷_, _++_, map}
+use mathlib.Core.List.{[], _∷_}
 use Prim.Native.Nat.{ℕ, suc, _-_, _≤_, _<_}
 use native.Mathlib.Omega.{arith}
 use lib.Dec.{ltb}
@@ -33,7 +33,7 @@ use Rattle.syntax.specs.declared.token.TokenRead.{TokenRead}
 use Rattle.syntax.specs.declared.atom.AtomRead.{AtomRead}
 use Rattle.syntax.specs.declared.body.RuleRead.{RuleRead}
 use Rattle.syntax.specs.Text.{token-of, placed-from, end-of, tokenRead}
-use Rattle.syntax.specs.Ahead.{Wants, wants, wanting, firsts, from}
+use Rattle.syntax.specs.Ahead.{Wants, wants, wanting, from}
 use Rattle.syntax.specs.Written.{plain-atom, plain-head, head-variables, plain-rule, rule-variables}
 use Rattle.syntax.specs.Reads.{Fits, Reads}
 use Rattle.syntax.specs.Atoms.{AtomPlace, head, atom-context, ReadsAtom}
@@ -64,13 +64,13 @@ module _ (ground : Bool) (text : Bytes) (at : ℕ) (t : TokenRead) (et : t ≡ t
   -- a dot: a fact
   pub headed-fact : t .kind ≡ 8 → (y : Rule) → y ≡ headOnly true a v → r ≡ goneRule y (t .next) → ReadsHeaded ground text at a v r
   unfolding moves after-atom try fire either when symbol-number too-big too-long too-many too-many-variables is-underscore plain-rule plain-head rule-variables head-variables rule-of head-of
-  headed-fact ek y ey er = rw (er, ey) (ReadsHeaded.read refl refl (within ground text at t et) fits fact (λ x p m. ((λ i. record { head = some (p i); body = [] }), m)) (λ p x. dotted p x .0 ∙ inv (same-walk ground _ _ [] _)) nothing-more)
+  headed-fact ek y ey er = rw (er, ey) (ReadsHeaded.read refl refl (within ground text at t et) fits fact (λ x p m. ((λ i. record { head = some (p i); body = [] }), m)) (λ p x. dotted p x .0 ∙ inv (same-walk ground _ _ [] _)) (dotted empty nothing .1) (dotted empty nothing .2))
     where
-      dotted : (p : Program ground) (x : AtomTree ground) → (from ground text (wants (closed (head-behind p) x)) v at .answer ≡ walk (language ground) (wanting ground) (wants (atom-wanted (head-behind (p then fact x)))) [] (end-of text) (placed-from ground text (t .next))) × (from ground text (wants (closed (head-behind p) x)) v at .firsts ≡ places-of v)
+      dotted : (p : Program ground) (x : AtomTree ground) → (from ground text (wants (closed (head-behind p) x)) v at .answer ≡ walk (language ground) (wanting ground) (wants (atom-wanted (head-behind (p then fact x)))) [] (end-of text) (placed-from ground text (t .next))) × (from ground text (wants (closed (head-behind p) x)) v at .firsts ≡ places-of v) × (from ground text (wants (closed (head-behind p) x)) v at .rest ≡ some (placed-from ground text (t .next)))
       dotted p x = dot-token ground text at t et ek (wants (closed (head-behind p) x)) v (record { mark = inside; state = atom-wanted (head-behind (p then fact x)) }) refl (fault-none _ _ _ _ refl refl refl refl)
 
-      nothing-more : places-of v ++ firsts (variables-of text v) (placed-from ground text at) ≡ places-of v
-      nothing-more = dotted empty (AtomTree.atom false [] bare) .1
+      nothing : AtomTree ground
+      nothing = AtomTree.atom false [] bare
 
   pub headed-wrong : (t .kind ≡ 8 → ⊥) → (t .kind ≡ 9 → ⊥) → r ≡ stoppedRule 2 (t .place) → ReadsHeaded ground text at a v r
   unfolding moves after-atom try-number fire-number either when symbol-number finished
@@ -90,7 +90,7 @@ headed-body false text at t et a v r ek g b = go b
     if-on p x = on-kind false text at t et 9 ek (λ z. omega arith) (wants (closed (head-behind p) x)) v v _ refl (fault-none _ _ _ _ refl refl refl refl) (meets-none text (token-by 9 (part text (t .place))) (t .place) v refl refl)
 
     go : ReadsBody text (t .next) true a v r → ReadsHeaded false text at a v r
-    go (ReadsBody.read c w) = ReadsHeaded.read c (w .going) (w .inside) (w .fits) (λ x. clause tt (some x) (w .literals) (w .final)) (λ x p m. (rw (m, w .plain, w .has-head, w .head, p), rw m (w .names))) (λ p x. ap (λ y. y .answer) (if-on p x) ∙ w .walks p (some x)) (ap (λ y. y .firsts) (if-on empty (AtomTree.atom false [] bare)) ∙ w .firsts)
+    go (ReadsBody.read c w) = ReadsHeaded.read c (w .going) (w .inside) (w .fits) (λ x. clause tt (some x) (w .literals) (w .final)) (λ x p m. (rw (m, w .plain, w .has-head, w .head, p), rw m (w .names))) (λ p x. ap (λ y. y .answer) (if-on p x) ∙ w .walks p (some x)) (ap (λ y. y .firsts) (if-on empty (AtomTree.atom false [] bare)) ∙ w .firsts) (ap (λ y. y .rest) (if-on empty (AtomTree.atom false [] bare)) ∙ w .rest)
     go (ReadsBody.stopped c w) = ReadsHeaded.stopped c (λ p x. ap (λ y. y .answer) (if-on p x) ∙ w p (some x))
 
 -- ---- a whole rule
@@ -136,9 +136,10 @@ module _ (ground over : Bool) (text : Bytes) (at : ℕ) (t : TokenRead) (et : t 
         go : ReadsAtom ground over text at noVariables w → ReadsHeaded ground text (w .progress .next) (w .atom) (w .variables) b → ReadsRule ground over text at (placedRule b (t .place .start))
         go (Reads.stopped c q) h = absurd (omega arith)
         go (Reads.read c n o f x p m q) (ReadsHeaded.stopped c′ q′) = stopped c′ (λ h. as-ahead ground text at (h .rules) ∙ ap (λ y. y .answer) (q (place h)) ∙ q′ (h .rules) x)
-        go (Reads.read c n o f x p m q) (ReadsHeaded.read c′ d n′ f′ make s q′ e) =
+        go (Reads.read c n o f x p m q) (ReadsHeaded.read c′ d n′ f′ make s q′ e l) =
             let k = s x p m in
-            read c′ d o n′ (make x) (record { plain = k .0; names = k .1; fits = f′; firsts = ap (λ y. y .firsts) (q (head empty (first-fits ground ∙ inv o) (λ y. ne (rw et y)) (λ y. nd (rw et y)))) ∙ e; place = rw et }) (λ h. as-ahead ground text at (h .rules) ∙ ap (λ y. y .answer) (q (place h)) ∙ q′ (h .rules) x)
+            let y = q (head empty (first-fits ground ∙ inv o) (λ z. ne (rw et z)) (λ z. nd (rw et z))) in
+            read c′ d o n′ (make x) (record { plain = k .0; names = k .1; fits = f′; firsts = ap (λ z. z .firsts) y ∙ e; rest = ap (λ z. z .rest) y ∙ l; place = rw et }) (λ h. as-ahead ground text at (h .rules) ∙ ap (λ y. y .answer) (q (place h)) ∙ q′ (h .rules) x)
 
 -- `:-` with no head, in a program
 module _ (over : Bool) (text : Bytes) (at : ℕ) (t : TokenRead) (et : t ≡ tokenRead false text at) (r : RuleRead) (ek : t .kind ≡ 9) where
@@ -159,7 +160,7 @@ module _ (over : Bool) (text : Bytes) (at : ℕ) (t : TokenRead) (et : t ≡ tok
 
       go : ReadsBody text (t .next) false noAtom noVariables b → ReadsRule false over text at (placedRule b (t .place .start))
       go (ReadsBody.stopped c w) = stopped c (λ h. as-ahead false text at (h .rules) ∙ ap (λ y. y .answer) (if-on (h .rules) (h .size)) ∙ w (h .rules) none)
-      go (ReadsBody.read c w) = read c (w .going) o (w .inside) (clause tt none (w .literals) (w .final)) (record { plain = rw (w .plain, w .has-head); names = w .names; fits = w .fits; firsts = ap (λ y. y .firsts) (if-on empty (first-fits false ∙ inv o)) ∙ w .firsts; place = rw et }) (λ h. as-ahead false text at (h .rules) ∙ ap (λ y. y .answer) (if-on (h .rules) (h .size)) ∙ w .walks (h .rules) none)
+      go (ReadsBody.read c w) = read c (w .going) o (w .inside) (clause tt none (w .literals) (w .final)) (record { plain = rw (w .plain, w .has-head); names = w .names; fits = w .fits; firsts = ap (λ y. y .firsts) (if-on empty (first-fits false ∙ inv o)) ∙ w .firsts; rest = ap (λ y. y .rest) (if-on empty (first-fits false ∙ inv o)) ∙ w .rest; place = rw et }) (λ h. as-ahead false text at (h .rules) ∙ ap (λ y. y .answer) (if-on (h .rules) (h .size)) ∙ w .walks (h .rules) none)
 
 -- the same, by a test
 pub constraint-over : (ground over : Bool) (text : Bytes) (at : ℕ) (t : TokenRead) → t ≡ tokenRead ground text at → (r : RuleRead) → t .kind ≡ 9 → ground ≡ false → over ≡ true → r ≡ stoppedRule 4 (t .place) → ReadsRule ground over text at r

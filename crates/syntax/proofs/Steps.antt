@@ -27,7 +27,7 @@ use Rattle.rule.specs.declared.Variables.{Variables}
 use Rattle.rule.specs.Stands.{variables-of}
 use Rattle.syntax.specs.declared.token.TokenRead.{TokenRead}
 use Rattle.syntax.specs.Text.{token-of, placed-from, end-of, tokenRead}
-use Rattle.syntax.specs.Ahead.{Wants, wants, wants-behind, wanting, ends-rule, is-first, if-first, firsts, Ahead, from}
+use Rattle.syntax.specs.Ahead.{Wants, wants, wants-behind, wanting, ends-rule, is-first, if-first, firsts, behind-dot, Ahead, from}
 use Rattle.syntax.proofs.Tokens.{token-by, token-here, number-here, placed-more, placed-end, end-here}
 
 -- the machine by what it wants next is the grammar's machine
@@ -73,10 +73,14 @@ module _ (ground : Bool) (text : Bytes) (at : ℕ) (t : TokenRead) (et : t ≡ t
   unfolding firsts
   firsts-on v v′ h m = rw (more h, m .going, m .places, m .names, append-assoc)
 
+  rest-on : (t .kind ≡ 20 → ⊥) → ends-rule here ≡ false → behind-dot (placed-from ground text at) ≡ behind-dot (placed-from ground text (t .next))
+  unfolding behind-dot
+  rest-on h e = rw (more h, e)
+
   -- a token that is taken, within the sizes
   pub on-token : (w : Wants ground) (v v′ : Variables) (x : Step (State ground) Mark) → (t .kind ≡ 20 → ⊥) → try (w .next) here ≡ some x → fault-at ground text v here (x .mark) ≡ 0 → Meets text here (t .place) v v′ → from ground text w v at ≡ from ground text (wants (x .state)) v′ (t .next)
   unfolding wants-behind
-  on-token w v v′ x h e f m = λ i. record { answer = answers i; firsts = firsts-on v v′ h m i }
+  on-token w v v′ x h e f m = λ i. record { answer = answers i; firsts = firsts-on v v′ h m i; rest = rest-on h (m .going) i }
     where
       answers : from ground text w v at .answer ≡ from ground text (wants (x .state)) v′ (t .next) .answer
       answers = rw (more h, ← (m .names)) (walk-on (language ground) (wanting ground) w (variables-of text v) (end-of text) ahead _ (record { mark = x .mark; state = wants (x .state) }) (rw e) f)
@@ -102,7 +106,7 @@ module _ (ground : Bool) (text : Bytes) (at : ℕ) (t : TokenRead) (et : t ≡ t
   -- two that take the token alike
   pub same-token : (w w′ : Wants ground) (v : Variables) → ((t .kind ≡ 20 → ⊥) → try (w .next) here ≡ try (w′ .next) here) → w .whole ≡ w′ .whole → from ground text w v at ≡ from ground text w′ v at
   unfolding wants-behind
-  same-token w w′ v e f = λ i. record { answer = go (eqb (t .kind) 20) refl i; firsts = from ground text w v at .firsts }
+  same-token w w′ v e f = λ i. record { answer = go (eqb (t .kind) 20) refl i; firsts = from ground text w v at .firsts; rest = from ground text w v at .rest }
     where
       go : (b : Bool) → eqb (t .kind) 20 ≡ b → from ground text w v at .answer ≡ from ground text w′ v at .answer
       go true q = rw (placed-end ground text at t et (eqb-true (t .kind) 20 q)) (walk-same-end (language ground) (wanting ground) w (variables-of text v) (end-of text) w′ f)
@@ -123,9 +127,9 @@ module _ (ground : Bool) (text : Bytes) (at : ℕ) (t : TokenRead) (et : t ≡ t
     over-kind w v x n e f z = over-token w v x n not-end (rw ek e) (rw ek f) z
 
   -- a dot, behind which no variable is remembered
-  pub dot-token : t .kind ≡ 8 → (w : Wants ground) (v : Variables) (x : Step (State ground) Mark) → try (w .next) (symbol dot) ≡ some x → fault-at ground text v (symbol dot) (x .mark) ≡ 0 → (from ground text w v at .answer ≡ walk (language ground) (wanting ground) (wants (x .state)) [] (end-of text) (placed-from ground text (t .next))) × (from ground text w v at .firsts ≡ take (v .count) (v .places))
-  unfolding wants-behind token-of meet meet-symbol firsts token-number symbol-number
-  dot-token ek w v x e f = (rw more-dot (walk-on (language ground) (wanting ground) w (variables-of text v) (end-of text) _ _ (record { mark = x .mark; state = wants (x .state) }) (rw e) f), rw more-dot (append-nil (take (v .count) (v .places))))
+  pub dot-token : t .kind ≡ 8 → (w : Wants ground) (v : Variables) (x : Step (State ground) Mark) → try (w .next) (symbol dot) ≡ some x → fault-at ground text v (symbol dot) (x .mark) ≡ 0 → (from ground text w v at .answer ≡ walk (language ground) (wanting ground) (wants (x .state)) [] (end-of text) (placed-from ground text (t .next))) × (from ground text w v at .firsts ≡ take (v .count) (v .places)) × (from ground text w v at .rest ≡ some (placed-from ground text (t .next)))
+  unfolding wants-behind token-of meet meet-symbol firsts behind-dot token-number symbol-number
+  dot-token ek w v x e f = (rw more-dot (walk-on (language ground) (wanting ground) w (variables-of text v) (end-of text) _ _ (record { mark = x .mark; state = wants (x .state) }) (rw e) f), rw more-dot (append-nil (take (v .count) (v .places))), rw more-dot)
     where
       more-dot : placed-from ground text at ≡ record { token = symbol dot; place = t .place } ∷ placed-from ground text (t .next)
       more-dot = more (λ q. omega arith) ∙ ap (λ k. record { token = token-by k (part text (t .place)); place = t .place } ∷ placed-from ground text (t .next)) ek

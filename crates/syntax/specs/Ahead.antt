@@ -1,4 +1,5 @@
--- What lies ahead from a place of a text: the answer of the grammar's machine, and the first occurrences of variables as far as the rule's dot.
+-- What lies ahead from a place of a text: the answer of the grammar's machine, the first occurrences of variables as far as the rule's dot,
+-- and the tokens behind it.
 use mathlib.Core.Bool.{Bool, true, false, cond}
 use mathlib.Core.Option.{Option, none, some}
 use mathlib.Core.List.{List, [], _∷_, _++_}
@@ -54,9 +55,15 @@ unfoldable pub firsts : Names → List (Placed Place Token) → List Place
 firsts vs [] = []
 firsts vs (t ∷ ts) = cond (ends-rule (t .token)) [] (if-first (is-first vs (t .token)) (t .place) ++ firsts (meet vs (t .token)) ts)
 
+-- the tokens behind the rule's dot, if it has one
+unfoldable pub behind-dot : List (Placed Place Token) → Option (List (Placed Place Token))
+behind-dot [] = none
+behind-dot (t ∷ ts) = cond (ends-rule (t .token)) (some ts) (behind-dot ts)
+
 pub record Ahead (ground : Bool) : Type 0 where
   pub answer : Answer Place (Program ground)
   pub firsts : List Place
+  pub rest : Option (List (Placed Place Token))
 
 -- the variables met before are given by value
 abbrev pub from : (ground : Bool) → Bytes → Wants ground → Variables → ℕ → Ahead ground
@@ -64,4 +71,5 @@ from ground text w v at =
     record {
       answer = walk (language ground) (wanting ground) w (variables-of text v) (end-of text) (placed-from ground text at);
       firsts = take (v .count) (v .places) ++ firsts (variables-of text v) (placed-from ground text at);
+      rest = behind-dot (placed-from ground text at);
     }

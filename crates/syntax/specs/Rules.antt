@@ -1,7 +1,7 @@
 -- Rules: where they stand, and what the functions that read them promise.
 use mathlib.Core.Path.{_≡_}
 use mathlib.Core.Bool.{Bool, true, false}
-use mathlib.Core.Option.{Option}
+use mathlib.Core.Option.{Option, some}
 use mathlib.Core.List.{List, [], _++_, map}
 use Prim.Native.Nat.{ℕ, suc, _-_, _≤_}
 use lib.ListN.{length, take}
@@ -23,7 +23,7 @@ use Rattle.rule.specs.Stands.{atom-of, literal-of, rule-of, variables-of}
 use Rattle.rule.specs.Build.{noPlace, noRule}
 use Rattle.syntax.specs.declared.body.RuleRead.{RuleRead}
 use Rattle.syntax.specs.Text.{placed-from, end-of, tokenRead}
-use Rattle.syntax.specs.Ahead.{wants, firsts, from}
+use Rattle.syntax.specs.Ahead.{wants, firsts, behind-dot, from}
 use Rattle.syntax.specs.Written.{plain-atom, plain-literals, plain-rule, rule-variables}
 use Rattle.syntax.specs.Reads.{Fits}
 
@@ -52,6 +52,7 @@ pub record Body (text : Bytes) (at : ℕ) (headed : Bool) (a : Atom) (v : Variab
   pub names : met (variables-of text v) (with-commas spell-nth-literal (literals then final)) ≡ variables-of text (r .rule .variables)
   pub walks : (p : Program false) (h : Option (AtomTree false)) → from false text (wants (atom-wanted (literal-in (new-body tt p h)))) v at .answer ≡ behind-rules false text (p then clause tt h literals final) (r .progress .next)
   pub firsts : places-of v ++ firsts (variables-of text v) (placed-from false text at) ≡ places-of (r .rule .variables)
+  pub rest : behind-dot (placed-from false text at) ≡ some (placed-from false text (r .progress .next))
 
 pub data ReadsBody (text : Bytes) (at : ℕ) (headed : Bool) (a : Atom) (v : Variables) (r : RuleRead) : Type 0 where
   read : r .progress .code ≡ 0 → Body text at headed a v r → ReadsBody text at headed a v r
@@ -60,7 +61,7 @@ pub data ReadsBody (text : Bytes) (at : ℕ) (headed : Bool) (a : Atom) (v : Var
 -- ---- from the end of the head on: a fact, or a body behind the head
 
 pub data ReadsHeaded (ground : Bool) (text : Bytes) (at : ℕ) (a : Atom) (v : Variables) (r : RuleRead) : Type 0 where
-  read : r .progress .code ≡ 0 → r .ended ≡ false → r .progress .next ≤ length text → Fits (r .rule .variables) → (make : AtomTree ground → Tree ground) → ((x : AtomTree ground) → plain-atom [] x ≡ atom-of text a → met [] (spell-atom inside x) ≡ variables-of text v → (plain-rule (make x) ≡ rule-of text (r .rule)) × (rule-variables (make x) ≡ variables-of text (r .rule .variables))) → ((p : Program ground) (x : AtomTree ground) → from ground text (wants (closed (head-behind p) x)) v at .answer ≡ behind-rules ground text (p then make x) (r .progress .next)) → places-of v ++ firsts (variables-of text v) (placed-from ground text at) ≡ places-of (r .rule .variables) → ReadsHeaded ground text at a v r
+  read : r .progress .code ≡ 0 → r .ended ≡ false → r .progress .next ≤ length text → Fits (r .rule .variables) → (make : AtomTree ground → Tree ground) → ((x : AtomTree ground) → plain-atom [] x ≡ atom-of text a → met [] (spell-atom inside x) ≡ variables-of text v → (plain-rule (make x) ≡ rule-of text (r .rule)) × (rule-variables (make x) ≡ variables-of text (r .rule .variables))) → ((p : Program ground) (x : AtomTree ground) → from ground text (wants (closed (head-behind p) x)) v at .answer ≡ behind-rules ground text (p then make x) (r .progress .next)) → places-of v ++ firsts (variables-of text v) (placed-from ground text at) ≡ places-of (r .rule .variables) → behind-dot (placed-from ground text at) ≡ some (placed-from ground text (r .progress .next)) → ReadsHeaded ground text at a v r
   stopped : 2 ≤ r .progress .code → ((p : Program ground) (x : AtomTree ground) → from ground text (wants (closed (head-behind p) x)) v at .answer ≡ refused (r .progress .code) (r .progress .place)) → ReadsHeaded ground text at a v r
 
 -- ---- a whole rule
@@ -73,12 +74,13 @@ pub record RulePlace (ground over : Bool) : Type 0 where
 abbrev pub between : ℕ → ℕ → Place
 between start end = record { start = start; len = end - start }
 
--- the rule by value stands for the tree x: its text, its variables, where each first occurs, and where it stands
+-- the rule by value stands for the tree x: its text, its variables, where each first occurs, what stands behind its dot, and where it stands
 pub record Holds (ground : Bool) (text : Bytes) (at : ℕ) (x : Tree ground) (next : ℕ) (r : Rule) : Type 0 where
   pub plain : plain-rule x ≡ rule-of text r
   pub names : rule-variables x ≡ variables-of text (r .variables)
   pub fits : Fits (r .variables)
   pub firsts : firsts [] (placed-from ground text at) ≡ places-of (r .variables)
+  pub rest : behind-dot (placed-from ground text at) ≡ some (placed-from ground text next)
   pub place : r .place ≡ between (tokenRead ground text at .place .start) next
 
 -- a rule, the end of the text, or a refusal

@@ -1,0 +1,4 @@
+pub mod Judged
+pub mod Unique
+pub mod Numbers
+pub mod Demands

@@ -1,0 +1,7 @@
+-- In the order to read them in.
+pub mod Answer
+pub mod Cases
+pub mod Judged
+pub mod Answered
+pub mod Refusals
+pub mod Ready

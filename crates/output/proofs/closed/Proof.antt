@@ -1,0 +1,28 @@
+-- `closed` meets its contract. Assumes nothing.
+use Rattle.output.proofs.Stages.{closed-idle, closed-stray}
+use borrow.Author.Needs.{needs}
+use Rattle.output.proofs.closed.Statement.{statement}
+use Rattle.output.proofs.closed.Tie as tie
+
+out-of-place-requires : tie.Need-out-of-place-requires
+out-of-place-requires c κs = search needs
+
+enum-told : tie.Need-enum-told
+enum-told c = search needs
+
+enum-known-found : tie.Need-enum-known-found
+enum-known-found c = search needs
+
+refused-requires : tie.Need-refused-requires
+refused-requires c κs = search needs
+
+returns : tie.Need-returns
+returns c = closed-idle _ _ _ (c .before .before .out-of-place .ensures) _ (c .enum-told .given .1)
+
+returns-2 : tie.Need-returns-2
+returns-2 c = closed-stray _ _ _ (c .before .before .before .before .out-of-place .ensures) _ _ (c .before .before .found .given .1) _ (c .refused .ensures)
+
+pub closed-spec : {M : Type 1} → statement M
+closed-spec =
+    tie.close
+    (tie.spec out-of-place-requires enum-told enum-known-found refused-requires returns returns-2)

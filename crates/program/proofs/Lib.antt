@@ -1,0 +1,6 @@
+pub mod Segments
+pub mod Remembered
+pub mod Loop
+pub mod Unique
+pub mod Spelled
+pub mod Safe

@@ -1,0 +1,161 @@
+-- Every rule of a program that is read is safe: each of its variables has a first occurrence, at which it would have been refused.
+use mathlib.Core.Path.{_≡_, refl, sym as inv, ap, _∙_}
+use mathlib.Core.Bool.{Bool, true, false}
+use mathlib.Core.List.{List, [], _∷_, _++_, append-nil, append-assoc}
+use Prim.Native.Nat.{ℕ, suc, _+_, _<_}
+use native.Mathlib.Omega.{arith}
+use native.Mathlib.Nat.{add-zero}
+use lib.Dec.{ltb}
+use lib.ListN.{length, length-append}
+use Rattle.reading.specs.Reading.{tokens, unplaced, seen, tree, Answer, refused, Reading}
+use Rattle.reading.proofs.Lists.{tokens-append, seen-append}
+use Rattle.lexis.specs.declared.Place.{Place}
+use Rattle.meaning.specs.Sets.{every}
+use Rattle.meaning.specs.Values.{Value}
+use Rattle.meaning.specs.Rules.{Bytes, Rule as MeantRule}
+use Rattle.meaning.specs.Safety.{head-bound, literal-bound, bound, safe}
+use Rattle.grammar.specs.Tokens.{dot, Token, symbol}
+use Rattle.grammar.specs.Trees.{empty, _then_, count, Rule, Program}
+use Rattle.grammar.specs.Spelling.{Mark, mere, spell-rule, spell}
+use Rattle.grammar.specs.Variables.{Variables, meet-symbol, meet}
+use Rattle.grammar.specs.Sizes.{programs}
+use Rattle.grammar.specs.Moves.{symbol-number, token-number}
+use Rattle.grammar.specs.Abstraction.{rule-for, rules-for}
+use Rattle.grammar.proofs.Variables.{met-seen}
+use Rattle.rule.specs.Build.{noPlace}
+use Rattle.syntax.specs.Ahead.{firsts}
+use Rattle.syntax.specs.Text.{end-of}
+use Rattle.syntax.specs.Written.{rule-variables}
+use Rattle.syntax.proofs.Numbered.{every-more, rule-below}
+use Rattle.safety.proofs.Safe.{safe-of-bound}
+use Rattle.stages.specs.Stage.{on}
+use Rattle.program.specs.Unbound.{Tokens, dots, met-behind, Unbound}
+use Rattle.program.specs.Stage.{tokens-of, ProgramStage}
+use Rattle.program.proofs.Segments.{Meeting, ends, meets, passes, meeting, firsts-ends, firsts-meets, firsts-passes, first-of}
+use Rattle.program.proofs.Remembered.{same-cons, case-of}
+use Rattle.program.proofs.Spelled.{dots-in, dots-unplaced, dots-in-append, Dotted, dotted}
+use Rattle.program.proofs.Unique.{read-is-read}
+
+-- ---- tokens with their places, split as the tokens are
+
+pub record Split (ts : Tokens) (l m : List Token) : Type 0 where
+  pub before : Tokens
+  pub ahead : Tokens
+  pub whole : before ++ ahead ≡ ts
+  pub its-tokens : unplaced before ≡ l
+  pub others : unplaced ahead ≡ m
+
+split : (ts : Tokens) (l m : List Token) → unplaced ts ≡ l ++ m → Split ts l m
+unfolding unplaced
+split ts [] m e = record { before = []; ahead = ts; whole = refl; its-tokens = refl; others = e }
+split [] (t ∷ l) m e = absurd (omega (arith, ap length e))
+split (u ∷ ts) (t ∷ l) m e = go (split ts l m)
+  where
+    first : u .token ≡ t
+    first = cc
+
+    rest : unplaced ts ≡ l ++ m
+    rest = cc
+
+    go : (unplaced ts ≡ l ++ m → Split ts l m) → Split (u ∷ ts) (t ∷ l) m
+    go rec = let s = rec rest in record { before = u ∷ s .before; ahead = s .ahead; whole = ap (λ x. u ∷ x) (s .whole); its-tokens = same-cons first (s .its-tokens); others = s .others }
+
+-- ---- the first occurrences in a rule's tokens are as many as the variables that are met
+
+counted : (vs : Variables) (ts : Tokens) (front rest : List Token) → unplaced ts ≡ front ++ symbol dot ∷ rest → dots-in front ≡ 0 → length vs + length (firsts vs ts) ≡ length (seen programs vs front)
+unfolding unplaced seen dots-in token-number symbol-number
+counted vs [] front rest e d = absurd (omega (arith, ap length e, length-append front (symbol dot ∷ rest)))
+counted vs (t ∷ ts) [] rest e d = let z : t .token ≡ symbol dot = cc in rw (firsts-ends vs t ts (rw z)) (add-zero (length vs))
+counted vs (t ∷ ts) (u ∷ front) rest e d = go (meeting vs (t .token)) (counted (meet vs (t .token)) ts front rest others)
+  where
+    first : t .token ≡ u
+    first = cc
+
+    others : unplaced ts ≡ front ++ symbol dot ∷ rest
+    others = cc
+
+    go : Meeting vs (t .token) → (dots-in front ≡ 0 → length (meet vs (t .token)) + length (firsts (meet vs (t .token)) ts) ≡ length (seen programs (meet vs (t .token)) front)) → length vs + length (firsts vs (t ∷ ts)) ≡ length (seen programs (meet vs u) front)
+    go (ends k f m) rec = absurd (omega (arith, rw (← first, k) at d))
+    go (meets k f m) rec = rw (← first, firsts-meets vs t ts k f) (omega (arith, m, rec (rw (← first, k) at d)))
+    go (passes k f m) rec = rw (← first, firsts-passes vs t ts k f m) (omega (arith, ap length m, ap (λ l. length (firsts l ts)) m, rec (rw (← first, k) at d)))
+
+-- ---- what is behind whole rules
+
+module _ {ground : Bool} where
+  -- behind the tokens of a rule no variable is remembered, and one dot more has been passed
+  behind-rule : (vs : Variables) (m : Mark) (r : Rule ground) → (dots-in (tokens (spell-rule m r)) ≡ 1) × (seen programs vs (tokens (spell-rule m r)) ≡ [])
+  unfolding tokens dots-in seen meet meet-symbol token-number symbol-number
+  behind-rule vs m r =
+      let d = dotted m r in
+      let e : tokens (spell-rule m r) ≡ tokens (d .front) ++ symbol dot ∷ [] = ap tokens (d .whole) ∙ tokens-append (d .front) (mere dot ∷ []) in
+      rw e (dots-in-append (tokens (d .front)) (symbol dot ∷ []) ∙ rw (d .no-dot), seen-append programs vs (tokens (d .front)) (symbol dot ∷ []))
+
+  behind-rules : (p : Program ground) → (dots-in (tokens (spell p)) ≡ length (rules-for p)) × (seen programs [] (tokens (spell p)) ≡ [])
+  unfolding spell rules-for dots-in seen tokens
+  behind-rules empty = (refl, refl)
+  behind-rules (p then r) =
+      let h = behind-rules p in
+      let m = Mark.rule (suc (count p)) in
+      let k = behind-rule [] m r in
+      rw (tokens-append (spell p) (spell-rule m r), length-append (rules-for p) (rule-for r ∷ [])) (dots-in-append (tokens (spell p)) (tokens (spell-rule m r)) ∙ rw (h .0, k .0), seen-append programs [] (tokens (spell p)) (tokens (spell-rule m r)) ∙ rw (h .1) (k .1))
+
+no-tree : {c : Program false} (n : ℕ) (q : Place) → _≡_ {A = Answer Place (Program false)} (refused n q) (tree c) → ⊥
+no-tree {c} n q e = let z : _≡_ {A = ℕ} 0 1 = cc in omega arith
+
+-- ---- the statement
+
+abbrev NoneUnbound : List (MeantRule Value) → Tokens → Type 0
+NoneUnbound rules ts = (i n : ℕ) → ¬ Unbound rules ts i n
+
+-- a rule behind the rules of p
+module _ (p : Program false) (r : Rule false) (rest : List Token) (more : List (MeantRule Value)) (ts : Tokens) where
+  abbrev m : Mark
+  m = Mark.rule (suc (count p))
+
+  rule-safe : unplaced ts ≡ tokens (spell p) ++ (tokens (spell-rule m r) ++ rest) → NoneUnbound (rules-for p ++ rule-for r ∷ more) ts → safe (rule-for r) ≡ true
+  unfolding tokens
+  rule-safe e none = safe-of-bound (rule-for r) (length (rule-variables r)) (λ y h. is-bound y h (bound (rule-for r) y) refl) (record { in-its-head = below .0; in-its-body = below .1 })
+    where
+      below : (head-bound (λ x. ltb x (length (rule-variables r))) (rule-for r .head) ≡ true) × (every (literal-bound (λ x. ltb x (length (rule-variables r)))) (rule-for r .body) ≡ true)
+      below = rule-below r (length (rule-variables r)) (omega arith)
+
+      s : Split ts (tokens (spell p)) (tokens (spell-rule m r) ++ rest)
+      s = split ts (tokens (spell p)) (tokens (spell-rule m r) ++ rest) e
+
+      d : Dotted m r
+      d = dotted m r
+
+      its-tokens : unplaced (s .ahead) ≡ tokens (d .front) ++ symbol dot ∷ rest
+      its-tokens = s .others ∙ ap (λ l. l ++ rest) (ap tokens (d .whole) ∙ tokens-append (d .front) (mere dot ∷ [])) ∙ append-assoc (tokens (d .front)) (symbol dot ∷ []) rest
+
+      many : 0 + length (firsts [] (s .ahead)) ≡ length (rule-variables r)
+      many = counted [] (s .ahead) (tokens (d .front)) rest its-tokens (d .no-dot) ∙ ap length (met-seen false [] (d .front) ∙ d .meets)
+
+      is-bound : (y : ℕ) → y < length (rule-variables r) → (b : Bool) → bound (rule-for r) y ≡ b → bound (rule-for r) y ≡ true
+      is-bound y h true k = k
+      is-bound y h false k =
+          let f = first-of [] (s .ahead) y noPlace (omega (arith, many)) in
+          let z : 0 + y ≡ y = omega arith in
+          let new : met-behind (s .before) ≡ [] = ap (seen programs []) (s .its-tokens) ∙ behind-rules p .1 in
+          let ended : dots (s .before) ≡ length (rules-for p) = dots-unplaced (s .before) ∙ ap dots-in (s .its-tokens) ∙ behind-rules p .0 in
+          absurd (none (length (s .before) + f .0) 5 (rw (s .whole) at (case-of (rules-for p) more (rule-for r) (s .before) (s .ahead) new ended (f .0) y _ (rw z at (f .1)) k)))
+
+pub rules-safe : (p : Program false) (rest : List Token) (more : List (MeantRule Value)) (ts : Tokens) → unplaced ts ≡ tokens (spell p) ++ rest → NoneUnbound (rules-for p ++ more) ts → every safe (rules-for p) ≡ true
+unfolding rules-for every spell
+rules-safe empty rest more ts e none = refl
+rules-safe (p then r) rest more ts e none =
+    let m = Mark.rule (suc (count p)) in
+    let f : unplaced ts ≡ tokens (spell p) ++ (tokens (spell-rule m r) ++ rest) = e ∙ ap (λ l. l ++ rest) (tokens-append (spell p) (spell-rule m r)) ∙ append-assoc (tokens (spell p)) (tokens (spell-rule m r)) rest in
+    let g : NoneUnbound (rules-for p ++ rule-for r ∷ more) ts = rw (append-assoc (rules-for p) (rule-for r ∷ []) more) at none in
+    every-more safe (rules-for p) (rule-for r) (rules-safe p (tokens (spell-rule m r) ++ rest) (rule-for r ∷ more) ts f g) (rule-safe p r rest more ts f g)
+
+its-spelling : (text : Bytes) (c : Program false) (a : Answer Place (Program false)) → a ≡ tree c → Reading programs (end-of text) (tokens-of text) a → unplaced (tokens-of text) ≡ tokens (spell c)
+its-spelling text c a e (Reading.read d s w) = let z : d ≡ c = cc in rw (← z) (inv s)
+its-spelling text c a e (Reading.wrong b t l h k n) = absurd (no-tree 2 (t .place) e)
+its-spelling text c a e (Reading.short h k) = absurd (no-tree 2 (end-of text) e)
+its-spelling text c a e (Reading.over b t l h k m g n f) = absurd (no-tree (suc n) (t .place) e)
+
+pub read-is-safe : (text : Bytes) (c : Program false) → ProgramStage text (on c) → every safe (rules-for c) ≡ true
+read-is-safe text c h =
+    let t = read-is-read text c h in
+    rules-safe c [] [] (tokens-of text) (its-spelling text c (tree c) refl (t .reading) ∙ inv (append-nil (tokens (spell c)))) (rw (← (append-nil (rules-for c))) at (t .none-unbound))

@@ -1,0 +1,19 @@
+-- `finished` meets its contract, by its test. Assumes nothing.
+use borrow.Author.Needs.{needs}
+use Rattle.program.proofs.finished.Statement.{statement}
+use Rattle.program.proofs.finished.Tie as tie
+
+-- src/lib.rt:57:9
+refused-requires : tie.Need-refused-requires
+refused-requires c κs = search needs
+
+-- src/lib.rt:57:9
+returns : tie.Need-returns
+returns c = rw (c .before .if1 .taken) (c .refused .ensures)
+
+-- src/lib.rt:52:1
+returns-2 : tie.Need-returns-2
+returns-2 c = rw (c .if1 .left)
+
+pub finished-spec : {M : Type 1} → statement M
+finished-spec = tie.close (tie.spec refused-requires returns returns-2)

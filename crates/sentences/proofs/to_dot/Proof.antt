@@ -1,0 +1,29 @@
+-- `to_dot` meets its contract: the first token stands before the end of the first dot. Assumes nothing.
+use native.Mathlib.Omega.{arith}
+use mathlib.Core.Path.{sym as inv, ap, _∙_}
+use Rattle.syntax.specs.Rules.{between}
+use Rattle.sentences.proofs.Dots.{no-token, start-before, first-to-dot}
+use borrow.Author.Needs.{needs}
+use Rattle.sentences.proofs.to_dot.Statement.{statement}
+use Rattle.sentences.proofs.to_dot.Tie as tie
+
+token-at-requires : tie.Need-token-at-requires
+token-at-requires c κs = search needs
+
+returns : tie.Need-returns
+returns c = inv (no-token (c .before .before .before .before .before .args .ground) (c .before .before .before .before .before .args .text .now) (c .before .before .before .before .before .args .at) _ (c .before .before .before .token-at .ensures) (c .if1 .taken))
+
+dot-end-requires : tie.Need-dot-end-requires
+dot-end-requires c κs = search needs
+
+sub-t8 : tie.Need-sub-t8
+sub-t8 c =
+    let a = c .before .before .before .before .before .before .before .args in
+    let before = start-before (a .ground) (a .text .now) (a .at) _ (c .before .before .before .before .before .token-at .ensures) (c .before .before .if1 .left) in
+    omega (arith, c .before .dot-end .ensures)
+
+returns-2 : tie.Need-returns-2
+returns-2 c = ap (between (c .before .before .before .before .before .token-at .result .place .start)) (c .before .dot-end .ensures) ∙ inv (first-to-dot (c .before .before .before .before .before .before .before .args .ground) (c .before .before .before .before .before .before .before .args .text .now) (c .before .before .before .before .before .before .before .args .at) _ (c .before .before .before .before .before .token-at .ensures) (c .before .before .if1 .left))
+
+pub to-dot-spec : {M : Type 1} → statement M
+to-dot-spec = tie.close (tie.spec token-at-requires returns dot-end-requires sub-t8 returns-2)
