@@ -7,13 +7,11 @@ use Rattle.lexis.specs.declared.Place.{Place}
 use Rattle.meaning.specs.Rules.{Bytes}
 use Rattle.grammar.specs.Trees.{Program}
 use Rattle.rule.specs.Build.{noPlace}
+use Rattle.stages.specs.Parts.{Part}
+use Rattle.stages.specs.Stage.{on, stop}
+use Rattle.program.specs.Stage.{ProgramStage}
 use Rattle.plainform.specs.PlainBytes.{plain-bytes}
 use Rattle.plain.specs.declared.Written.{Written}
-
--- what a text is to the reader: a program, or one of the refusals 1 to 5 at its part
-pub data Read : Type 0 where
-  as-program : Program false → Read
-  refused : ℕ → Place → Read
 
 -- the fields of an answer: a number of refusal and its part, or 0 and the length of the plain form
 abbrev pub answer : ℕ → Place → ℕ → Written
@@ -29,8 +27,8 @@ pub data WritesProgram (c : Program false) (buffer : Bytes) : Written → Bytes 
   short : length buffer < length (plain-bytes c) → WritesProgram c buffer (answer 9 noPlace 0) buffer
   writes : length (plain-bytes c) ≤ length buffer → WritesProgram c buffer (answer 0 noPlace (length (plain-bytes c))) (filled buffer c)
 
--- any text, where `Reader text r` says that the reader takes it as r
-pub data Writes (Reader : Bytes → Read → Type 0) (text buffer : Bytes) : Written → Bytes → Type 0 where
-  -- 1 to 5 as the reader gives them; every byte is as it was
-  refuses : (n : ℕ) (p : Place) → Reader text (refused n p) → Writes Reader text buffer (answer n p 0) buffer
-  takes : (c : Program false) → Reader text (as-program c) → (a : Written) (left : Bytes) → WritesProgram c buffer a left → Writes Reader text buffer a left
+-- any text
+pub data Writes (text buffer : Bytes) : Written → Bytes → Type 0 where
+  -- 1 to 5 as the reader of programs gives them; every byte is as it was
+  refuses : (n : ℕ) (p : Part) → ProgramStage text (stop n p) → Writes text buffer (answer n (p .place) 0) buffer
+  takes : (c : Program false) → ProgramStage text (on c) → (a : Written) (left : Bytes) → WritesProgram c buffer a left → Writes text buffer a left

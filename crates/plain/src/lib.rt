@@ -1,7 +1,9 @@
 // A program's plain form, written into a lent buffer.
+ghost use Rattle.plain.specs.Answer.{Writes};
 ghost use Rattle.plain.specs.Rules.{Readable, PutsPlain, AnswersPlain};
 use lexis::Place;
 use plainrule::clause::put_rule;
+use program::read_program;
 use syntax::program::MOST_RULES;
 use syntax::program::rule_at;
 
@@ -38,7 +40,7 @@ fn put_rules(buffer: &mut [u8], program: &[u8]) -> usize
 
 // The plain form of a program that is read, at the buffer's start, or the refusal of a buffer that is shorter. Its length is found
 // first, on a part of the buffer that has no room.
-pub fn write_read(program: &[u8], buffer: &mut [u8]) -> Written
+fn write_read(program: &[u8], buffer: &mut [u8]) -> Written
     requires { ⌜ Readable (now program) ⌝ }
     ensures { λ r. ⌜ AnswersPlain (now (program .entry)) (now (buffer .entry)) r (now (buffer .exit)) ⌝ }
 {
@@ -57,4 +59,20 @@ pub fn write_read(program: &[u8], buffer: &mut [u8]) -> Written
         place,
         length,
     }
+}
+
+// The plain form of a program, at the buffer's start; or the refusal of the program, or of a buffer that is shorter.
+pub fn write_plain(program: &[u8], buffer: &mut [u8]) -> Written
+    ensures { λ r. ⌜ Writes (now (program .entry)) (now (buffer .entry)) r (now (buffer .exit)) ⌝ }
+{
+    let read = read_program(program);
+    let place = read.place;
+    if read.code != 0 {
+        return Written {
+            code: read.code,
+            place,
+            length: 0,
+        };
+    }
+    write_read(program, buffer)
 }

@@ -2,5 +2,6 @@ pub mod Segments
 pub mod Remembered
 pub mod Loop
 pub mod Unique
+pub mod Taken
 pub mod Spelled
 pub mod Safe

@@ -34,7 +34,7 @@ use Rattle.program.specs.Stage.{tokens-of, ProgramStage}
 use Rattle.program.proofs.Segments.{Meeting, ends, meets, passes, meeting, firsts-ends, firsts-meets, firsts-passes, first-of}
 use Rattle.program.proofs.Remembered.{same-cons, case-of}
 use Rattle.program.proofs.Spelled.{dots-in, dots-unplaced, dots-in-append, Dotted, dotted}
-use Rattle.program.proofs.Unique.{read-is-read}
+use Rattle.program.proofs.Taken.{read-is-read}
 
 -- ---- tokens with their places, split as the tokens are
 
