@@ -1,0 +1,74 @@
+-- `frame::number_at` is safe and ends. The measure is what is left of the line. Assumes nothing.
+use Prim.Native.Nat.{_-_}
+use lib.ListN.{length}
+use borrow.Author.Needs.{needs}
+use Rattle.trials.proofs.frame.number_at.Statement.{statement}
+use Rattle.trials.proofs.frame.number_at.Tie as tie
+
+abbrev Inv-loop : tie.InvT-loop
+Inv-loop line at next₀ value₀ next value = Unit {0}
+
+abbrev μ-loop : tie.MeasureT-loop
+μ-loop line at next₀ value₀ next value = length line - next
+
+-- src/frame.rt:89:5
+loop-holds : tie.Need-loop-holds Inv-loop μ-loop
+loop-holds c = search needs
+
+-- src/frame.rt:90:20
+shared-slice-read-byte : tie.Need-shared-slice-read-byte Inv-loop μ-loop
+shared-slice-read-byte c = search needs
+
+-- src/frame.rt:97:21
+cast-digit : tie.Need-cast-digit Inv-loop μ-loop
+cast-digit c = search needs
+
+-- src/frame.rt:98:13
+sub-if3 : tie.Need-sub-if3 Inv-loop μ-loop
+sub-if3 c = search needs
+
+-- src/frame.rt:99:13
+returns : tie.Need-returns Inv-loop μ-loop
+returns c = search needs
+
+-- src/frame.rt:105:17
+mul-value : tie.Need-mul-value Inv-loop μ-loop
+mul-value c = search needs
+
+-- src/frame.rt:105:17
+add-value : tie.Need-add-value Inv-loop μ-loop
+add-value c = search needs
+
+-- src/frame.rt:106:9
+add-next : tie.Need-add-next Inv-loop μ-loop
+add-next c = search needs
+
+-- src/frame.rt:89:5
+loop-less : tie.Need-loop-less Inv-loop μ-loop
+loop-less c = search needs
+
+-- src/frame.rt:89:5
+loop-again : tie.Need-loop-again Inv-loop μ-loop
+loop-again c = search needs
+
+-- src/frame.rt:86:1
+returns-2 : tie.Need-returns-2 Inv-loop μ-loop
+returns-2 c = search needs
+
+pub number-at-spec : {M : Type 1} → statement M
+number-at-spec =
+    tie.close
+    (tie.spec
+    Inv-loop
+    μ-loop
+    loop-holds
+    shared-slice-read-byte
+    cast-digit
+    sub-if3
+    returns
+    mul-value
+    add-value
+    add-next
+    loop-less
+    loop-again
+    returns-2)
