@@ -5,12 +5,12 @@ ghost use Rattle.meaning.specs.Values.{bytes-before};
 ghost use Rattle.names.specs.Texts.{bytes-at};
 ghost use Rattle.names.specs.Table.{Table, names-of, bytes-of, slot-of};
 ghost use Rattle.names.specs.Numbering.{Empty, Finds, Interns};
+use bytewise::comes_before;
 use lexis::Place;
-use order::comes_before;
 use rule::name::same_bytes;
 use text::bytes_at;
 
-pub mod order;
+pub mod bytewise;
 mod table;
 pub mod text;
 

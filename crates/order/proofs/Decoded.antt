@@ -1,28 +1,19 @@
 -- What the codes of names stand for.
-use mathlib.Core.Path.{_≡_, refl, sym, ap, ap₂, _∙_}
-use mathlib.Core.Bool.{Bool, true, false, cond, true≢false}
+use mathlib.Core.Path.{_≡_, refl, sym, _∙_}
+use mathlib.Core.Bool.{Bool, true, false, true≢false}
 use mathlib.Core.Option.{Option, none, some}
-use mathlib.Core.List.{List, []}
-use Prim.Native.Nat.{ℕ, zero, suc, _+_, _*_, _-_, _≤_, _<_}
+use mathlib.Core.List.{List, [], _∷_}
+use Prim.Native.Nat.{ℕ, zero, suc, _-_, _≤_, _<_}
 use native.Mathlib.Omega.{arith}
-use borrow.Author.Tests.{eqb-true, eq-eqb, ne-eqb, lt-ltb, le-ltb}
+use borrow.Author.Tests.{eqb-true, ltb-true, ltb-false}
 use lib.Dec.{eqb, ltb}
-use lib.ListN.{length, getD, take, drop, getElem?}
+use lib.ListN.{length, getD, getElem?}
 use Rattle.meaning.specs.Domain.{Comparison}
 use Rattle.meaning.specs.Rules.{Bytes}
 use Rattle.meaning.specs.Values.{Value, number, name, compare-values, compare-names, compare-numbers}
 use Rattle.codes.specs.Codes.{no-value, first-name, is-number-code, number-of}
 use Rattle.codes.specs.Domains.{named, decode, compare-decoded}
-use Rattle.tables.specs.Rows.{from, name-at, names-of}
-use Rattle.tables.specs.WellFormed.{NameTable}
-use Rattle.tables.proofs.Strides.{from-at}
-use Rattle.order.specs.Spans.{SpanOf}
-
-from-past : {A : Type 0} (f : ℕ → A) (n k i : ℕ) → n ≤ i → getElem? (from f n k) i ≡ none
-unfolding from
-from-past f zero k i h = refl
-from-past f (suc n) k zero h = absurd (omega arith)
-from-past f (suc n) k (suc i) h = from-past f n (suc k) i (omega arith)
+use Rattle.order.specs.Texts.{stands, text-of}
 
 pub decode-number : (names : List Bytes) (c : ℕ) → is-number-code c ≡ true → decode names c ≡ some (number (number-of c))
 unfolding decode is-number-code
@@ -32,49 +23,39 @@ decode-number names c h = go (eqb c no-value) refl
     go true e = absurd (true≢false (sym h ∙ rw (eqb-true c no-value e)))
     go false e = rw (e, h)
 
-module _ (bytes names : List ℕ) (count c : ℕ) (table : NameTable bytes names count) (n : is-number-code c ≡ false) where
-  pub span-blank : c ≡ no-value → SpanOf bytes names count c (record { ok = true; start = 0; end = 0 })
-  unfolding decode
-  span-blank e = record {
-    rises = omega arith;
-    inside = omega arith;
-    named = λ h. rw (eq-eqb c no-value e);
-    nameless = λ h. absurd (true≢false h);
-  }
+-- what stands within a list stands there whatever the default
+within : {A : Type 0} (l : List A) (i : ℕ) (d : A) → i < length l → getElem? l i ≡ some (getD l i d)
+within [] i d h = absurd (omega arith)
+within (x ∷ l) zero d h = refl
+within (x ∷ l) (suc i) d h = within l i d (omega arith)
 
-  module _ (v : c ≡ no-value → ⊥) where
-    pub span-below : c < first-name → SpanOf bytes names count c (record { ok = false; start = 0; end = 0 })
-    unfolding decode
-    span-below h = record {
-      rises = omega arith;
-      inside = omega arith;
-      named = λ k. absurd (true≢false (sym k));
-      nameless = λ k. rw (ne-eqb c no-value v, n, lt-ltb c first-name h);
-    }
+past : {A : Type 0} (l : List A) (i : ℕ) → length l ≤ i → getElem? l i ≡ none
+past [] i h = refl
+past (x ∷ l) zero h = absurd (omega arith)
+past (x ∷ l) (suc i) h = past l i (omega arith)
 
-    pub span-past : first-name ≤ c → count ≤ c - first-name → SpanOf bytes names count c (record { ok = false; start = 0; end = 0 })
-    unfolding decode named
-    span-past h k = record {
-      rises = omega arith;
-      inside = omega arith;
-      named = λ j. absurd (true≢false (sym j));
-      nameless = λ j. rw (ne-eqb c no-value v, n, le-ltb c first-name h, from-past (name-at bytes names) count 0 (c - first-name) k);
-    }
+module _ (names : List Bytes) (count c : ℕ) (n : is-number-code c ≡ false) (l : length names ≡ count) where
+  pub decode-name : stands count c ≡ true → decode names c ≡ some (name (text-of names c))
+  unfolding decode named stands text-of
+  decode-name h = go (eqb c no-value) (ltb c first-name) refl refl
+    where
+      go : (s t : Bool) → eqb c no-value ≡ s → ltb c first-name ≡ t → decode names c ≡ some (name (text-of names c))
+      go true t e f = rw (eqb-true c no-value e)
+      go false true e f = absurd (true≢false (sym (rw (e, f) at h)))
+      go false false e f =
+          let k : ltb (c - first-name) count ≡ true = rw (e, f) at h in
+          rw (e, n, f, within names (c - first-name) [] (omega (arith, ltb-true (c - first-name) count k)))
 
-    pub span-name : first-name ≤ c → c - first-name < count → SpanOf bytes names count c (record { ok = true; start = getD names ((c - first-name) * 2) 0; end = getD names ((c - first-name) * 2) 0 + getD names ((c - first-name) * 2 + 1) 0 })
-    unfolding decode named name-at
-    span-name h k =
-        let i = c - first-name in
-        let s = getD names (i * 2) 0 in
-        let w = getD names (i * 2 + 1) 0 in
-        let e : s + w - s ≡ w = omega arith in
-        let z : 0 + i ≡ i = omega arith in
-        record {
-          rises = omega arith;
-          inside = table .inside i k;
-          named = λ j. rw (ne-eqb c no-value v, n, le-ltb c first-name h, from-at (name-at bytes names) count 0 i k, z, e);
-          nameless = λ j. absurd (true≢false j);
-        }
+  pub decode-none : stands count c ≡ false → decode names c ≡ none
+  unfolding decode named stands
+  decode-none h = go (eqb c no-value) (ltb c first-name) refl refl
+    where
+      go : (s t : Bool) → eqb c no-value ≡ s → ltb c first-name ≡ t → decode names c ≡ none
+      go true t e f = absurd (true≢false (rw e at h))
+      go false true e f = rw (e, n, f)
+      go false false e f =
+          let k : ltb (c - first-name) count ≡ false = rw (e, f) at h in
+          rw (e, n, f, past names (c - first-name) (omega (arith, ltb-false (c - first-name) count k)))
 
 -- ---- comparisons of what two codes stand for
 

@@ -6,154 +6,101 @@ use codes::GREATER;
 use codes::LESS;
 use codes::NO_VALUE;
 use codes::UNEQUAL;
-use tables::NAME;
+use names::bytewise::comes_before;
+use rule::name::same_bytes;
 ghost use mathlib.Core.Path.{_≡_};
 ghost use mathlib.Core.Bool.{false};
-ghost use Rattle.meaning.specs.Values.{same-bytes, bytes-before, compare-names};
+ghost use Rattle.meaning.specs.Values.{compare-names};
 ghost use Rattle.codes.specs.Codes.{is-number-code};
 ghost use Rattle.codes.specs.Arithmetic.{comparison-at};
 ghost use Rattle.codes.specs.Domains.{compare-decoded, decode};
-ghost use Rattle.tables.specs.Rows.{names-of};
-ghost use Rattle.tables.specs.WellFormed.{NameTable};
-ghost use Rattle.order.specs.Spans.{SpanOf};
+ghost use Rattle.names.specs.Table.{Table, names-of};
+ghost use Rattle.order.specs.Texts.{stands, text-of};
 
-// Where a name's bytes stand, if the code is a name's.
-pub struct Span {
-    pub ok: bool,
-    pub start: usize,
-    pub end: usize,
-}
-
-// The bytes are the same.
-fn same(first: &[u8], second: &[u8]) -> bool
-    ensures { λ r. ⌜ r ≡ same-bytes (now (first .entry)) (now (second .entry)) ⌝ }
-{
-    if first.len() != second.len() {
-        return false;
-    }
-    let mut i: usize = 0;
-    while i < first.len() {
-        if first[i] != second[i] {
-            return false;
-        }
-        i += 1;
-    }
-    true
-}
-
-// The first bytes stand before the second, a prefix first.
-fn before(first: &[u8], second: &[u8]) -> bool
-    ensures { λ r. ⌜ r ≡ bytes-before (now (first .entry)) (now (second .entry)) ⌝ }
-{
-    let mut i: usize = 0;
-    while i < second.len() {
-        if first.len() <= i {
-            return true;
-        }
-        if first[i] != second[i] {
-            return first[i] < second[i];
-        }
-        i += 1;
-    }
-    false
-}
+// Where a table of names says how many there are.
+const COUNT: usize = 0;
 
 // Two names, compared by their bytes.
 fn compare_bytes(comparison: u64, first: &[u8], second: &[u8]) -> bool
     ensures { λ r. ⌜ r ≡ compare-names (comparison-at comparison) (now (first .entry)) (now (second .entry)) ⌝ }
 {
     if comparison == EQUAL {
-        return same(first, second);
+        return same_bytes(first, second);
     }
     if comparison == UNEQUAL {
-        return !same(first, second);
+        return !same_bytes(first, second);
     }
     if comparison == LESS {
-        return before(first, second);
+        return comes_before(first, second);
     }
     if comparison == AT_MOST {
-        return !before(second, first);
+        return !comes_before(second, first);
     }
     if comparison == GREATER {
-        return before(second, first);
+        return comes_before(second, first);
     }
-    !before(first, second)
+    !comes_before(first, second)
 }
 
-// The bytes of the name that a code stands for, if any: no value is a name without bytes.
-fn span_of(bytes: &[u8], names: &[u64], count: usize, code: u64) -> Span
-    requires { ⌜ (is-number-code code ≡ false) × NameTable (now bytes) (now names) count ⌝ }
-    ensures { λ r. ⌜ SpanOf (now (bytes .entry)) (now (names .entry)) count code r ⌝ }
+// A code that is no number's stands for one of so many names, or for no value.
+fn stands_for_name(count: usize, code: u64) -> bool
+    ensures { λ r. ⌜ r ≡ stands count code ⌝ }
 {
     if code == NO_VALUE {
-        return Span {
-            ok: true,
-            start: 0,
-            end: 0,
-        };
+        return true;
     }
     if code < FIRST_NAME {
-        return Span {
-            ok: false,
-            start: 0,
-            end: 0,
-        };
+        return false;
     }
-    let i = (code - FIRST_NAME) as usize;
-    if count <= i {
-        return Span {
-            ok: false,
-            start: 0,
-            end: 0,
-        };
+    ((code - FIRST_NAME) as usize) < count
+}
+
+// The bytes of the name that a code stands for; no value is a name without bytes.
+fn text_of<'a>(program: &'a [u8], output: &'a [u8], names: &[u32], code: u64) -> &'a [u8]
+    requires { ⌜ Table (now program) (now output) (now names) ⌝ }
+    ensures { λ r. ⌜ now r ≡ text-of (names-of (now (program .entry)) (now (output .entry)) (now (names .entry))) code ⌝ }
+{
+    if code < FIRST_NAME {
+        return names::bytes_of(program, output, names, names::MOST_NAMES);
     }
-    let start = names[i * NAME] as usize;
-    let length = names[i * NAME + 1] as usize;
-    Span {
-        ok: true,
-        start,
-        end: start + length,
-    }
+    names::bytes_of(program, output, names, (code - FIRST_NAME) as usize)
 }
 
 // Two codes that are no numbers.
-fn compare_names(
-    bytes: &[u8],
-    names: &[u64],
-    count: usize,
+fn compare_names<'a>(
+    program: &'a [u8],
+    output: &'a [u8],
+    names: &[u32],
     comparison: u64,
     first: u64,
     second: u64,
 ) -> bool
-    requires { ⌜ (is-number-code first ≡ false) × (is-number-code second ≡ false) × NameTable (now bytes) (now names) count ⌝ }
-    ensures { λ r. ⌜ r ≡ compare-decoded (comparison-at comparison) (decode (names-of (now (bytes .entry)) (now (names .entry)) count) first) (decode (names-of (now (bytes .entry)) (now (names .entry)) count) second) ⌝ }
+    requires { ⌜ (is-number-code first ≡ false) × (is-number-code second ≡ false) × Table (now program) (now output) (now names) ⌝ }
+    ensures { λ r. ⌜ r ≡ compare-decoded (comparison-at comparison) (decode (names-of (now (program .entry)) (now (output .entry)) (now (names .entry))) first) (decode (names-of (now (program .entry)) (now (output .entry)) (now (names .entry))) second) ⌝ }
 {
-    let one = span_of(bytes, names, count, first);
-    if !one.ok {
+    let count = names[COUNT] as usize;
+    if !stands_for_name(count, first) {
         return false;
     }
-    let other = span_of(bytes, names, count, second);
-    if !other.ok {
+    if !stands_for_name(count, second) {
         return false;
     }
-    let start = one.start;
-    let end = one.end;
-    let from = other.start;
-    let to = other.end;
-    compare_bytes(comparison, &bytes[start..end], &bytes[from..to])
+    let one = text_of(program, output, names, first);
+    let other = text_of(program, output, names, second);
+    compare_bytes(comparison, one, other)
 }
 
 // Two codes.
-pub fn compare(
-    bytes: &[u8],
-    names: &[u64],
-    count: usize,
+pub fn compare<'a>(
+    program: &'a [u8],
+    output: &'a [u8],
+    names: &[u32],
     comparison: u64,
     first: u64,
     second: u64,
 ) -> bool
-    requires { ⌜ NameTable (now bytes) (now names) count ⌝ }
-    ensures { λ r. ⌜ r ≡ compare-decoded (comparison-at comparison) (decode (names-of (now (bytes .entry)) (now (names .entry)) count) first) (decode (names-of (now (bytes .entry)) (now (names .entry)) count) second) ⌝ }
+    requires { ⌜ Table (now program) (now output) (now names) ⌝ }
+    ensures { λ r. ⌜ r ≡ compare-decoded (comparison-at comparison) (decode (names-of (now (program .entry)) (now (output .entry)) (now (names .entry))) first) (decode (names-of (now (program .entry)) (now (output .entry)) (now (names .entry))) second) ⌝ }
 {
     if codes::is_number(first) {
         if codes::is_number(second) {
@@ -164,5 +111,5 @@ pub fn compare(
     if codes::is_number(second) {
         return false;
     }
-    compare_names(bytes, names, count, comparison, first, second)
+    compare_names(program, output, names, comparison, first, second)
 }

@@ -1,9 +1,9 @@
 -- What the two searches over the rules say together.
-use mathlib.Core.Path.{_≡_, refl, sym, ap, ap₂, _∙_, fun-ext}
+use mathlib.Core.Path.{_≡_, sym, ap, _∙_, fun-ext}
 use mathlib.Core.Bool.{Bool, true, false, _||_, or-false, true≢false}
 use mathlib.Core.Option.{Option, none, some}
 use mathlib.Core.List.{List}
-use Prim.Native.Nat.{ℕ, _+_, _-_, _≤_, _<_}
+use Prim.Native.Nat.{ℕ, _-_, _≤_}
 use native.Mathlib.Omega.{arith}
 use lib.ListN.{take}
 use Rattle.meaning.specs.Rules.{Bytes, Fact, Rule}
@@ -16,7 +16,6 @@ use Rattle.walk.specs.Stops as walks
 use Rattle.walk.specs.declared.Found as walked
 use Rattle.pass.specs.Passed.{stop-test, stop-of, Passed}
 use Rattle.pass.specs.declared.Stop.{Stop}
-use Rattle.pass.specs.declared.Pass.{Pass}
 use Rattle.pass.proofs.Seeking.{nothing-sought, split}
 
 -- ---- what a walk found

@@ -1,20 +1,20 @@
 -- The walk of a rule from its start.
 use mathlib.Core.Path.{_≡_, refl, sym, ap, ap₂, _∙_, fun-ext}
-use mathlib.Core.Bool.{Bool, true, false, _||_}
+use mathlib.Core.Bool.{Bool, false}
 use mathlib.Core.Option.{Option, none, some}
 use mathlib.Core.List.{List, [], _∷_, map}
-use Prim.Native.Nat.{ℕ, _+_, _*_, _-_, _≤_}
+use Prim.Native.Nat.{ℕ, _+_, _*_, _-_}
 use native.Mathlib.Omega.{arith}
 use lib.ListN.{length, take, drop}
-use Rattle.meaning.specs.Sets.{In, any}
-use Rattle.meaning.specs.Rules.{Bytes, Term, Atom, Fact, Rule}
+use Rattle.meaning.specs.Sets.{In}
+use Rattle.meaning.specs.Rules.{Bytes, Term, Atom, Fact}
 use Rattle.meaning.specs.Safety.{when, positives}
 use Rattle.meaning.specs.Matchings.{Values}
-use Rattle.meaning.specs.Matcher.{Match, match-all, Choice, choices}
+use Rattle.meaning.specs.Matcher.{match-all, choices}
 use Rattle.meaning.specs.Quick.{find, overflows}
 use Rattle.codes.specs.Codes.{Distinct}
 use Rattle.codes.specs.Domains.{codes, code-in-range}
-use Rattle.tables.specs.Rows.{facts-of, rule-column, positive-places, atom-at, rule-at}
+use Rattle.tables.specs.Rows.{rule-column, atom-at, rule-at}
 use Rattle.tables.specs.WellFormed.{RuleRow, Inside}
 use Rattle.tables.proofs.Strides.{part-length, part-is}
 use Rattle.binding.specs.Bindings.{values-of}

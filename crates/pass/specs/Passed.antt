@@ -9,10 +9,9 @@ use Rattle.meaning.specs.Rules.{Bytes, Fact, Rule}
 use Rattle.meaning.specs.Safety.{when}
 use Rattle.meaning.specs.Matcher.{Choice}
 use Rattle.meaning.specs.Quick.{Found, breaks, broken, overflows, overflow}
-use Rattle.codes.specs.Codes.{Distinct}
 use Rattle.codes.specs.Domains.{codes, code-in-range}
-use Rattle.tables.specs.Rows.{names-of}
-use Rattle.tables.specs.WellFormed.{NameTable, FactTable, RuleTable}
+use Rattle.names.specs.Table.{Table}
+use Rattle.tables.specs.WellFormed.{FactTable, RuleTable}
 use Rattle.chains.specs.Links.{Linked}
 use Rattle.pass.specs.declared.Stop.{Stop}
 use Rattle.pass.specs.declared.Pass.{Pass}
@@ -29,9 +28,8 @@ unfoldable pub stop-of : Stop → Option Found
 stop-of s = when (s .ok) (some (record { rule = s .rule; at = take (s .length) (s .positions) }))
 
 -- well-formed tables: the requirement of the engine
-pub record Tables (bytes names : List ℕ) (named : ℕ) (rules literals facts links : List ℕ) (count total : ℕ) : Type 0 where
-  pub name-table : NameTable bytes names named
-  pub distinct : Distinct (names-of bytes names named)
+pub record Tables (program output : Bytes) (names rules literals facts links : List ℕ) (count total : ℕ) : Type 0 where
+  pub name-table : Table program output names
   pub rule-table : RuleTable rules literals total
   pub fact-table : FactTable facts count
   pub linked : Linked links facts count

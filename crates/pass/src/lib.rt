@@ -10,7 +10,8 @@ ghost use Prim.Native.Nat.{_<_, _≤_, _-_};
 ghost use Rattle.meaning.specs.Quick.{find, seek};
 ghost use Rattle.meaning.specs.Matcher.{choices};
 ghost use Rattle.codes.specs.Domains.{codes};
-ghost use Rattle.tables.specs.Rows.{from, facts-of, rule-at, rule-column, names-of, rules-of};
+ghost use Rattle.tables.specs.Rows.{from, facts-of, rule-at, rule-column, rules-of};
+ghost use Rattle.names.specs.Table.{names-of};
 ghost use Rattle.walk.specs.Stops.{found-at};
 ghost use Rattle.pass.specs.Passed.{stop-test, at-of, stop-of, Tables, Passed};
 
@@ -31,24 +32,32 @@ pub struct Pass {
     pub positions: [u64; 16],
 }
 
-// The first matching of rule r that leaves the range or, if asked for, is broken. Without an operation no matching leaves the range.
-fn search(
-    bytes: &[u8],
-    names: &[u64],
-    named: usize,
+// What is looked for among the matchings of a rule, or of the rules from it on: one that leaves the range or, if asked for, is broken. With
+// it goes how many facts and rules there are.
+pub struct Task {
+    pub count: usize,
+    pub total: usize,
+    pub rule: usize,
+    pub broken: bool,
+}
+
+// The first matching of a rule that leaves the range or, if asked for, is broken. Without an operation no matching leaves the range.
+fn search<'a>(
+    program: &'a [u8],
+    output: &'a [u8],
+    names: &[u32],
     rules: &[u64],
     literals: &[u64],
     facts: &[u64],
     links: &[u64],
-    count: usize,
-    total: usize,
-    r: usize,
-    broken: bool,
+    task: Task,
 ) -> Found
-    requires { ⌜ Tables (now bytes) (now names) named (now rules) (now literals) (now facts) (now links) count total × (r < total) ⌝ }
-    ensures { λ f. ⌜ found-at (rule-column (now (rules .entry)) r 5) f ≡ at-of (find (stop-test (names-of (now (bytes .entry)) (now (names .entry)) named) (facts-of (now (facts .entry)) count) broken (rule-at (now (rules .entry)) (now (literals .entry)) r)) (choices (codes (names-of (now (bytes .entry)) (now (names .entry)) named)) (facts-of (now (facts .entry)) count) (rule-at (now (rules .entry)) (now (literals .entry)) r))) ⌝ }
+    requires { ⌜ Tables (now program) (now output) (now names) (now rules) (now literals) (now facts) (now links) (task .count) (task .total) × (task .rule < task .total) ⌝ }
+    ensures { λ f. ⌜ found-at (rule-column (now (rules .entry)) (task .rule) 5) f ≡ at-of (find (stop-test (names-of (now (program .entry)) (now (output .entry)) (now (names .entry))) (facts-of (now (facts .entry)) (task .count)) (task .broken) (rule-at (now (rules .entry)) (now (literals .entry)) (task .rule))) (choices (codes (names-of (now (program .entry)) (now (output .entry)) (now (names .entry)))) (facts-of (now (facts .entry)) (task .count)) (rule-at (now (rules .entry)) (now (literals .entry)) (task .rule)))) ⌝ }
 {
     let positions = [0u64; 16];
+    let r = task.rule;
+    let broken = task.broken;
     if !broken {
         if rules[r * RULE + HAS_OPERATION] == 0 {
             return Found {
@@ -62,14 +71,14 @@ fn search(
     let known = binding::unbound();
     let start = Place { positions, known };
     walk::walk(
-        bytes,
+        program,
+        output,
         names,
-        named,
         rules,
         literals,
         facts,
         links,
-        count,
+        task.count,
         r,
         broken,
         &rules[at..at + length],
@@ -78,38 +87,26 @@ fn search(
     )
 }
 
-// The first rule from `first` on that has a matching that leaves the range or, if asked for, is broken.
-fn first_stop(
-    bytes: &[u8],
-    names: &[u64],
-    named: usize,
+// The first rule from a rule on that has a matching that leaves the range or, if asked for, is broken.
+fn first_stop<'a>(
+    program: &'a [u8],
+    output: &'a [u8],
+    names: &[u32],
     rules: &[u64],
     literals: &[u64],
     facts: &[u64],
     links: &[u64],
-    count: usize,
-    total: usize,
-    first: usize,
-    broken: bool,
+    task: Task,
 ) -> Stop
-    requires { ⌜ Tables (now bytes) (now names) named (now rules) (now literals) (now facts) (now links) count total × (first ≤ total) ⌝ }
-    ensures { λ s. ⌜ stop-of s ≡ seek (codes (names-of (now (bytes .entry)) (now (names .entry)) named)) (stop-test (names-of (now (bytes .entry)) (now (names .entry)) named) (facts-of (now (facts .entry)) count) broken) (facts-of (now (facts .entry)) count) first (from (rule-at (now (rules .entry)) (now (literals .entry))) (total - first) first) ⌝ }
+    requires { ⌜ Tables (now program) (now output) (now names) (now rules) (now literals) (now facts) (now links) (task .count) (task .total) × (task .rule ≤ task .total) ⌝ }
+    ensures { λ s. ⌜ stop-of s ≡ seek (codes (names-of (now (program .entry)) (now (output .entry)) (now (names .entry)))) (stop-test (names-of (now (program .entry)) (now (output .entry)) (now (names .entry))) (facts-of (now (facts .entry)) (task .count)) (task .broken)) (facts-of (now (facts .entry)) (task .count)) (task .rule) (from (rule-at (now (rules .entry)) (now (literals .entry))) (task .total - task .rule) (task .rule)) ⌝ }
 {
-    let mut r = first;
+    let total = task.total;
+    let mut r = task.rule;
     while r < total {
-        let found = search(
-            bytes,
-            names,
-            named,
-            rules,
-            literals,
-            facts,
-            links,
-            count,
-            total,
-            r,
-            broken,
-        );
+        let mut here = task;
+        here.rule = r;
+        let found = search(program, output, names, rules, literals, facts, links, here);
         if found.ok {
             let positions = found.positions;
             let length = rules[r * RULE + POSITIVES] as usize;
@@ -130,11 +127,26 @@ fn first_stop(
     }
 }
 
+// What is found, with the positions of a stop.
+fn passed(over: bool, broken: bool, rule: usize, stop: Stop) -> Pass
+    ensures { λ p. ⌜ p ≡ (record { over = over; broken = broken; rule = rule; length = stop .length; positions = stop .positions }) ⌝ }
+{
+    let length = stop.length;
+    let positions = stop.positions;
+    Pass {
+        over,
+        broken,
+        rule,
+        length,
+        positions,
+    }
+}
+
 // The first pass: after a broken instance only rules with an operation are walked on, for refusal 8 wins over any verdict.
-pub fn first_pass(
-    bytes: &[u8],
-    names: &[u64],
-    named: usize,
+pub fn first_pass<'a>(
+    program: &'a [u8],
+    output: &'a [u8],
+    names: &[u32],
     rules: &[u64],
     literals: &[u64],
     facts: &[u64],
@@ -142,62 +154,26 @@ pub fn first_pass(
     count: usize,
     total: usize,
 ) -> Pass
-    requires { ⌜ Tables (now bytes) (now names) named (now rules) (now literals) (now facts) (now links) count total ⌝ }
-    ensures { λ p. ⌜ Passed (names-of (now (bytes .entry)) (now (names .entry)) named) (rules-of (now (rules .entry)) (now (literals .entry)) total) (facts-of (now (facts .entry)) count) p ⌝ }
+    requires { ⌜ Tables (now program) (now output) (now names) (now rules) (now literals) (now facts) (now links) count total ⌝ }
+    ensures { λ p. ⌜ Passed (names-of (now (program .entry)) (now (output .entry)) (now (names .entry))) (rules-of (now (rules .entry)) (now (literals .entry)) total) (facts-of (now (facts .entry)) count) p ⌝ }
 {
-    let stop = first_stop(
-        bytes,
-        names,
-        named,
-        rules,
-        literals,
-        facts,
-        links,
+    let broken = true;
+    let task = Task {
         count,
         total,
-        0,
-        true,
-    );
-    let rule = stop.rule;
-    let length = stop.length;
-    let positions = stop.positions;
+        rule: 0,
+        broken,
+    };
+    let stop = first_stop(program, output, names, rules, literals, facts, links, task);
     if !stop.ok {
-        return Pass {
-            over: false,
-            broken: false,
-            rule,
-            length,
-            positions,
-        };
+        return passed(false, false, stop.rule, stop);
     }
-    let over = first_stop(
-        bytes,
-        names,
-        named,
-        rules,
-        literals,
-        facts,
-        links,
-        count,
-        total,
-        rule,
-        false,
-    );
+    let mut rest = task;
+    rest.rule = stop.rule;
+    rest.broken = false;
+    let over = first_stop(program, output, names, rules, literals, facts, links, rest);
     if over.ok {
-        let lowest = over.rule;
-        return Pass {
-            over: true,
-            broken: false,
-            rule: lowest,
-            length,
-            positions,
-        };
+        return passed(true, false, over.rule, stop);
     }
-    Pass {
-        over: false,
-        broken: true,
-        rule,
-        length,
-        positions,
-    }
+    passed(false, true, stop.rule, stop)
 }

@@ -1,14 +1,14 @@
 -- A predicate's number is its predicate: two atoms of rows have one predicate exactly where they have one number.
-use mathlib.Core.Path.{_≡_, refl, sym, ap, _∙_}
+use mathlib.Core.Path.{_≡_, refl, sym, _∙_}
 use mathlib.Core.Bool.{Bool, true, false, _&&_, false≢true, true≢false}
-use mathlib.Core.List.{List, [], _∷_, map}
-use Prim.Native.Nat.{ℕ, suc, _+_, _*_, _/_, _%_, _<_}
+use mathlib.Core.List.{List}
+use Prim.Native.Nat.{ℕ, _/_, _%_, _<_}
 use native.Mathlib.Omega.{arith}
 use native.Mathlib.Nat.{div-add-mod', div-div-eq-div-mul}
 use borrow.Author.Tests.{eqb-true, eqb-false, eq-eqb}
 use lib.Dec.{eqb}
 use lib.ListN.{length}
-use Rattle.meaning.specs.Rules.{Predicate, predicate}
+use Rattle.meaning.specs.Rules.{predicate}
 use Rattle.meaning.specs.Values.{same-bytes}
 use Rattle.meaning.specs.Instances.{same-sign, same-predicate}
 use Rattle.meaning.proofs.Booleans.{and-left, and-right, both-ways}

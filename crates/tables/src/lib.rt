@@ -61,6 +61,3 @@ pub const POSITIVE_PLACES: usize = 22;
 
 // A rule without a head.
 pub const NO_LITERAL: u64 = 65_535;
-
-// The numbers of a name: where its bytes start, and how many they are.
-pub const NAME: usize = 2;

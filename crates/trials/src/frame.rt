@@ -1,4 +1,6 @@
 // A frame: the words and numbers of its first line, and the bytes behind it.
+ghost use mathlib.Core.Path.{_≡_};
+ghost use Prim.Native.Nat.{_≤_};
 use lexis::Place;
 use libc::STDIN_FILENO;
 use rule::name::part;
@@ -6,6 +8,12 @@ use rule::name::same_bytes;
 
 // The most bytes of a frame's first line.
 pub const MOST_LINE: usize = 64;
+
+// The most bytes of a text, and of the writer's buffer.
+pub const MOST_BYTES: u64 = 65600;
+
+// The most places of the check's buffer.
+pub const MOST_PLACES: u64 = 2048;
 
 // A byte of the input, or its end.
 struct Next {
@@ -20,7 +28,7 @@ pub struct Line {
     pub len: usize,
 }
 
-// A number of a line, and where it ends; `good`: it is there, and below 2^64.
+// A number of a line, and where it ends; `good`: it is there, is small enough, and so are those before it.
 pub struct Number {
     pub good: bool,
     pub value: u64,
@@ -84,6 +92,17 @@ pub fn begins_with(line: &[u8], word: &[u8]) -> bool {
     same_bytes(start, word)
 }
 
+// No number: what is read at a place of the line is of no known form.
+fn nothing(next: usize) -> Number
+    ensures { λ r. ⌜ r .value ≡ 0 ⌝ }
+{
+    Number {
+        good: false,
+        value: 0,
+        next,
+    }
+}
+
 // The number at a place of a line.
 fn number_at(line: &[u8], at: usize) -> Number {
     let mut next = at;
@@ -98,11 +117,7 @@ fn number_at(line: &[u8], at: usize) -> Number {
         }
         let digit = (byte - b'0') as u64;
         if (u64::MAX - digit) / 10 < value {
-            return Number {
-                good: false,
-                value: 0,
-                next,
-            };
+            return nothing(next);
         }
         value = value * 10 + digit;
         next += 1;
@@ -114,23 +129,42 @@ fn number_at(line: &[u8], at: usize) -> Number {
     }
 }
 
-// The number behind a blank that stands at a place of a line.
-pub fn number_behind(line: &[u8], at: usize) -> Number {
+// The place behind a first word of this length, before any number is read.
+pub fn behind_word(next: usize) -> Number {
+    Number {
+        good: true,
+        value: 0,
+        next,
+    }
+}
+
+// The number, at most so big, behind a blank that follows the number before it.
+pub fn number_behind(line: &[u8], before: Number, most: u64) -> Number
+    ensures { λ r. ⌜ r .value ≤ most ⌝ }
+{
+    let at = before.next;
+    if !before.good {
+        return nothing(at);
+    }
     if line.len() <= at {
-        return Number {
-            good: false,
-            value: 0,
-            next: at,
-        };
+        return nothing(at);
     }
     if line[at] != b' ' {
-        return Number {
-            good: false,
-            value: 0,
-            next: at,
-        };
+        return nothing(at);
     }
-    number_at(line, at + 1)
+    let number = number_at(line, at + 1);
+    if most < number.value {
+        return nothing(at);
+    }
+    number
+}
+
+// Does the line end with this number?
+pub fn ends_with(line: &[u8], last: Number) -> bool {
+    if !last.good {
+        return false;
+    }
+    last.next == line.len()
 }
 
 // Reads n bytes to the start of a text, for which there is room: whether they all came.

@@ -1,4 +1,7 @@
 // The frame `plain ROOM PROGRAM-LENGTH`: the program's plain form, written into a buffer of that room.
+use crate::frame::MOST_BYTES;
+use crate::frame::behind_word;
+use crate::frame::ends_with;
 use crate::frame::newline;
 use crate::frame::number_behind;
 use crate::frame::read_bytes;
@@ -40,7 +43,9 @@ fn is_kept(buffer: &[u8], from: usize) -> bool {
 fn report(written: Written, buffer: &[u8]) {
     let at = written.place;
     if written.code != 0 {
-        refused(written.code, b"program", at, is_kept(buffer, 0));
+        refused(written.code);
+        place(b"program", at);
+        ending(is_kept(buffer, 0));
         return;
     }
     let length = written.length;
@@ -66,30 +71,24 @@ fn trial(program: &[u8], buffer: &mut [u8]) {
 }
 
 // The answer to the frame: false where it is not of this form.
-pub fn answer(line: &[u8], program: &mut [u8], buffer: &mut [u8]) -> bool {
-    let room = number_behind(line, 5);
-    let length = number_behind(line, room.next);
-    if !room.good {
-        return false;
-    }
-    if !length.good {
-        return false;
-    }
-    if length.next != line.len() {
+pub fn answer(line: &[u8], texts: &mut [u8], buffer: &mut [u8]) -> bool {
+    let room = number_behind(line, behind_word(5), MOST_BYTES);
+    let length = number_behind(line, room, MOST_BYTES);
+    if !ends_with(line, length) {
         return false;
     }
     let most = room.value as usize;
     let n = length.value as usize;
-    if !read_bytes(program, n) {
+    if !read_bytes(texts, n) {
         return false;
     }
     if !newline() {
         return false;
     }
-    let text = part(program, Place { start: 0, len: n });
+    let program = part(texts, Place { start: 0, len: n });
     if buffer.len() < most {
         return false;
     }
-    trial(text, &mut buffer[0..most]);
+    trial(program, &mut buffer[0..most]);
     true
 }

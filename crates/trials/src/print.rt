@@ -29,9 +29,7 @@ pub fn ending(kept: bool) {
     say(b" touched\n");
 }
 
-pub fn refused(code: u8, text: &[u8], at: Place, kept: bool) {
+pub fn refused(code: u8) {
     say(b"REFUSED ");
     number(code as u64);
-    place(text, at);
-    ending(kept);
 }

@@ -1,6 +1,6 @@
 -- `compare` meets its contract: two numbers, two names, and false between the kinds. Assumes nothing.
 use Rattle.order.proofs.Decoded.{compared-numbers, number-and-name, name-and-number}
-use Rattle.tables.specs.Rows.{names-of}
+use Rattle.names.specs.Table.{names-of}
 use Rattle.codes.specs.Arithmetic.{comparison-at}
 use mathlib.Core.Path.{_∙_, sym}
 use borrow.Author.Needs.{needs}
@@ -17,19 +17,19 @@ compare-numbers-requires : tie.Need-compare-numbers-requires
 compare-numbers-requires c κs = search needs
 
 returns : tie.Need-returns
-returns c = let a = c .before .before .before .before .before .before .before .args in c .compare-numbers .ensures ∙ sym (compared-numbers (comparison-at (a .comparison)) (names-of (a .bytes .now) (a .names .now) (a .count)) (a .first) (a .second) (sym (c .before .before .before .before .is-number .ensures) ∙ c .before .before .before .if1 .taken) (sym (c .before .before .is-number2 .ensures) ∙ c .before .if2 .taken))
+returns c = let a = c .before .before .before .before .before .before .before .before .args in c .compare-numbers .ensures ∙ sym (compared-numbers (comparison-at (a .comparison)) (names-of (a .program .now) (a .output .now) (a .names .now)) (a .first) (a .second) (sym (c .before .before .before .before .is-number .ensures) ∙ c .before .before .before .if1 .taken) (sym (c .before .before .is-number2 .ensures) ∙ c .before .if2 .taken))
 
 returns-2 : tie.Need-returns-2
-returns-2 c = let a = c .before .before .before .before .before .before .args in sym (number-and-name (comparison-at (a .comparison)) (names-of (a .bytes .now) (a .names .now) (a .count)) (a .first) (a .second) (sym (c .before .before .before .is-number .ensures) ∙ c .before .before .if1 .taken) (sym (c .before .is-number2 .ensures) ∙ c .if2 .left))
+returns-2 c = let a = c .before .before .before .before .before .before .before .args in sym (number-and-name (comparison-at (a .comparison)) (names-of (a .program .now) (a .output .now) (a .names .now)) (a .first) (a .second) (sym (c .before .before .before .is-number .ensures) ∙ c .before .before .if1 .taken) (sym (c .before .is-number2 .ensures) ∙ c .if2 .left))
 
 is-number-requires-3 : tie.Need-is-number-requires-3
 is-number-requires-3 c κs = search needs
 
 returns-3 : tie.Need-returns-3
-returns-3 c = let a = c .before .before .before .before .before .before .args in sym (name-and-number (comparison-at (a .comparison)) (names-of (a .bytes .now) (a .names .now) (a .count)) (a .first) (a .second) (sym (c .before .before .before .is-number .ensures) ∙ c .before .before .if1 .left) (sym (c .before .is-number3 .ensures) ∙ c .if3 .taken))
+returns-3 c = let a = c .before .before .before .before .before .before .before .args in sym (name-and-number (comparison-at (a .comparison)) (names-of (a .program .now) (a .output .now) (a .names .now)) (a .first) (a .second) (sym (c .before .before .before .is-number .ensures) ∙ c .before .before .if1 .left) (sym (c .before .is-number3 .ensures) ∙ c .if3 .taken))
 
 compare-names-requires : tie.Need-compare-names-requires
-compare-names-requires c κs = (sym (c .before .before .before .is-number .ensures) ∙ c .before .before .if1 .left, sym (c .before .is-number3 .ensures) ∙ c .if3 .left, c .before .before .before .before .before .before .pre)
+compare-names-requires c κs = (sym (c .before .before .before .is-number .ensures) ∙ c .before .before .if1 .left, sym (c .before .is-number3 .ensures) ∙ c .if3 .left, c .before .before .before .before .before .before .before .pre)
 
 returns-4 : tie.Need-returns-4
 returns-4 c = search needs

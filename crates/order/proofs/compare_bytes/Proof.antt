@@ -8,61 +8,61 @@ use borrow.Author.Needs.{needs}
 use Rattle.order.proofs.compare_bytes.Statement.{statement}
 use Rattle.order.proofs.compare_bytes.Tie as tie
 
-same-requires : tie.Need-same-requires
-same-requires c κs = search needs
+same-bytes-requires : tie.Need-same-bytes-requires
+same-bytes-requires c κs = search needs
 
 returns : tie.Need-returns
 unfolding compare-names comparison-at
-returns c = rw (c .before .if1 .taken) (c .same .ensures)
+returns c = rw (c .before .if1 .taken) (c .same-bytes .ensures)
 
-same-requires-2 : tie.Need-same-requires-2
-same-requires-2 c κs = search needs
+same-bytes-requires-2 : tie.Need-same-bytes-requires-2
+same-bytes-requires-2 c κs = search needs
 
 returns-2 : tie.Need-returns-2
 unfolding compare-names comparison-at
-returns-2 c = rw (c .before .if2 .taken) (ap not (c .same2 .ensures))
+returns-2 c = rw (c .before .if2 .taken) (ap not (c .same-bytes2 .ensures))
 
-before-requires : tie.Need-before-requires
-before-requires c κs = search needs
+comes-before-requires : tie.Need-comes-before-requires
+comes-before-requires c κs = search needs
 
 returns-3 : tie.Need-returns-3
 unfolding compare-names comparison-at
-returns-3 c = rw (c .before .if3 .taken) (c .before2 .ensures)
+returns-3 c = rw (c .before .if3 .taken) (c .comes-before .ensures)
 
-before-requires-2 : tie.Need-before-requires-2
-before-requires-2 c κs = search needs
+comes-before-requires-2 : tie.Need-comes-before-requires-2
+comes-before-requires-2 c κs = search needs
 
 returns-4 : tie.Need-returns-4
 unfolding compare-names comparison-at
-returns-4 c = rw (c .before .if4 .taken) (ap not (c .before3 .ensures))
+returns-4 c = rw (c .before .if4 .taken) (ap not (c .comes-before2 .ensures))
 
-before-requires-3 : tie.Need-before-requires-3
-before-requires-3 c κs = search needs
+comes-before-requires-3 : tie.Need-comes-before-requires-3
+comes-before-requires-3 c κs = search needs
 
 returns-5 : tie.Need-returns-5
 unfolding compare-names comparison-at
-returns-5 c = rw (c .before .if5 .taken) (c .before4 .ensures)
+returns-5 c = rw (c .before .if5 .taken) (c .comes-before3 .ensures)
 
-before-requires-4 : tie.Need-before-requires-4
-before-requires-4 c κs = search needs
+comes-before-requires-4 : tie.Need-comes-before-requires-4
+comes-before-requires-4 c κs = search needs
 
 returns-6 : tie.Need-returns-6
 unfolding compare-names comparison-at
-returns-6 c = let n = c .before .before .before .before .before .before .before .before .args .comparison in rw (ne-eqb n 0 (c .before .before .before .before .before .if1 .left), ne-eqb n 1 (c .before .before .before .before .if2 .left), ne-eqb n 2 (c .before .before .before .if3 .left), ne-eqb n 3 (c .before .before .if4 .left), ne-eqb n 4 (c .before .if5 .left)) (ap not (c .before5 .ensures))
+returns-6 c = let n = c .before .before .before .before .before .before .before .before .args .comparison in rw (ne-eqb n 0 (c .before .before .before .before .before .if1 .left), ne-eqb n 1 (c .before .before .before .before .if2 .left), ne-eqb n 2 (c .before .before .before .if3 .left), ne-eqb n 3 (c .before .before .if4 .left), ne-eqb n 4 (c .before .if5 .left)) (ap not (c .comes-before4 .ensures))
 
 pub compare-bytes-spec : {M : Type 1} → statement M
 compare-bytes-spec =
     tie.close
     (tie.spec
-    same-requires
+    same-bytes-requires
     returns
-    same-requires-2
+    same-bytes-requires-2
     returns-2
-    before-requires
+    comes-before-requires
     returns-3
-    before-requires-2
+    comes-before-requires-2
     returns-4
-    before-requires-3
+    comes-before-requires-3
     returns-5
-    before-requires-4
+    comes-before-requires-4
     returns-6)

@@ -11,47 +11,39 @@ Inv-loop line at next₀ value₀ next value = Unit {0}
 abbrev μ-loop : tie.MeasureT-loop
 μ-loop line at next₀ value₀ next value = length line - next
 
--- src/frame.rt:89:5
 loop-holds : tie.Need-loop-holds Inv-loop μ-loop
 loop-holds c = search needs
 
--- src/frame.rt:90:20
 shared-slice-read-byte : tie.Need-shared-slice-read-byte Inv-loop μ-loop
 shared-slice-read-byte c = search needs
 
--- src/frame.rt:97:21
 cast-digit : tie.Need-cast-digit Inv-loop μ-loop
 cast-digit c = search needs
 
--- src/frame.rt:98:13
 sub-if3 : tie.Need-sub-if3 Inv-loop μ-loop
 sub-if3 c = search needs
 
--- src/frame.rt:99:13
+nothing-requires : tie.Need-nothing-requires Inv-loop μ-loop
+nothing-requires c κs = search needs
+
 returns : tie.Need-returns Inv-loop μ-loop
 returns c = search needs
 
--- src/frame.rt:105:17
 mul-value : tie.Need-mul-value Inv-loop μ-loop
 mul-value c = search needs
 
--- src/frame.rt:105:17
 add-value : tie.Need-add-value Inv-loop μ-loop
 add-value c = search needs
 
--- src/frame.rt:106:9
 add-next : tie.Need-add-next Inv-loop μ-loop
 add-next c = search needs
 
--- src/frame.rt:89:5
 loop-less : tie.Need-loop-less Inv-loop μ-loop
 loop-less c = search needs
 
--- src/frame.rt:89:5
 loop-again : tie.Need-loop-again Inv-loop μ-loop
 loop-again c = search needs
 
--- src/frame.rt:86:1
 returns-2 : tie.Need-returns-2 Inv-loop μ-loop
 returns-2 c = search needs
 
@@ -65,6 +57,7 @@ number-at-spec =
     shared-slice-read-byte
     cast-digit
     sub-if3
+    nothing-requires
     returns
     mul-value
     add-value

@@ -3,31 +3,24 @@ use borrow.Author.Needs.{needs}
 use Rattle.trials.proofs.frame.read_bytes.Statement.{statement}
 use Rattle.trials.proofs.frame.read_bytes.Tie as tie
 
--- src/frame.rt:139:9
 returns : tie.Need-returns
 returns c = search needs
 
--- src/frame.rt:141:33
 sub-read-full : tie.Need-sub-read-full
 sub-read-full c = search needs
 
--- src/frame.rt:141:33
 part-read-full-start : tie.Need-part-read-full-start
 part-read-full-start c = search needs
 
--- src/frame.rt:141:33
 part-read-full-end : tie.Need-part-read-full-end
 part-read-full-end c = search needs
 
--- src/frame.rt:141:5
 read-full-requires : tie.Need-read-full-requires
 read-full-requires c κs = search needs
 
--- src/frame.rt:137:1
 same-length : tie.Need-same-length
 same-length c = search needs
 
--- src/frame.rt:137:1
 returns-2 : tie.Need-returns-2
 returns-2 c = search needs
 

@@ -10,39 +10,30 @@ Inv-loop line₀ len₀ line len = Unit {0}
 abbrev μ-loop : tie.MeasureT-loop
 μ-loop line₀ len₀ line len = 64 - len
 
--- src/frame.rt:53:5
 loop-holds : tie.Need-loop-holds Inv-loop μ-loop
 loop-holds c = search needs
 
--- src/frame.rt:54:13
 next-byte-requires : tie.Need-next-byte-requires Inv-loop μ-loop
 next-byte-requires c κs = search needs
 
--- src/frame.rt:56:13
 returns : tie.Need-returns Inv-loop μ-loop
 returns c = search needs
 
--- src/frame.rt:62:13
 returns-2 : tie.Need-returns-2 Inv-loop μ-loop
 returns-2 c = search needs
 
--- src/frame.rt:64:9
 element-write-line : tie.Need-element-write-line Inv-loop μ-loop
 element-write-line c = search needs
 
--- src/frame.rt:65:9
 add-len : tie.Need-add-len Inv-loop μ-loop
 add-len c = search needs
 
--- src/frame.rt:53:5
 loop-less : tie.Need-loop-less Inv-loop μ-loop
 loop-less c = search needs
 
--- src/frame.rt:53:5
 loop-again : tie.Need-loop-again Inv-loop μ-loop
 loop-again c = search needs
 
--- src/frame.rt:49:1
 returns-3 : tie.Need-returns-3 Inv-loop μ-loop
 returns-3 c = search needs
 

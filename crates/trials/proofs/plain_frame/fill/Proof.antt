@@ -12,35 +12,27 @@ Inv-loop buffer₀ at₀ buffer at = length buffer ≡ length buffer₀
 abbrev μ-loop : tie.MeasureT-loop
 μ-loop buffer₀ at₀ buffer at = length buffer₀ - at
 
--- src/plain_frame.rt:22:5
 loop-holds : tie.Need-loop-holds Inv-loop μ-loop
 loop-holds c = search needs
 
--- src/plain_frame.rt:23:22
 pattern-requires : tie.Need-pattern-requires Inv-loop μ-loop
 pattern-requires c κs = search needs
 
--- src/plain_frame.rt:23:9
 slice-write-buffer : tie.Need-slice-write-buffer Inv-loop μ-loop
 slice-write-buffer c = search needs
 
--- src/plain_frame.rt:24:9
 add-at : tie.Need-add-at Inv-loop μ-loop
 add-at c = search needs
 
--- src/plain_frame.rt:22:5
 loop-less : tie.Need-loop-less Inv-loop μ-loop
 loop-less c = search needs
 
--- src/plain_frame.rt:22:5
 loop-again : tie.Need-loop-again Inv-loop μ-loop
 loop-again c = search needs
 
--- src/plain_frame.rt:20:1
 same-length : tie.Need-same-length Inv-loop μ-loop
 same-length c = search needs
 
--- src/plain_frame.rt:20:1
 returns : tie.Need-returns Inv-loop μ-loop
 returns c = search needs
 

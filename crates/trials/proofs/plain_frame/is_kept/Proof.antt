@@ -11,35 +11,27 @@ Inv-loop buffer from at₀ at = Unit {0}
 abbrev μ-loop : tie.MeasureT-loop
 μ-loop buffer from at₀ at = length buffer - at
 
--- src/plain_frame.rt:31:5
 loop-holds : tie.Need-loop-holds Inv-loop μ-loop
 loop-holds c = search needs
 
--- src/plain_frame.rt:32:12
 shared-slice-read-if1 : tie.Need-shared-slice-read-if1 Inv-loop μ-loop
 shared-slice-read-if1 c = search needs
 
--- src/plain_frame.rt:32:26
 pattern-requires : tie.Need-pattern-requires Inv-loop μ-loop
 pattern-requires c κs = search needs
 
--- src/plain_frame.rt:33:13
 returns : tie.Need-returns Inv-loop μ-loop
 returns c = search needs
 
--- src/plain_frame.rt:35:9
 add-at : tie.Need-add-at Inv-loop μ-loop
 add-at c = search needs
 
--- src/plain_frame.rt:31:5
 loop-less : tie.Need-loop-less Inv-loop μ-loop
 loop-less c = search needs
 
--- src/plain_frame.rt:31:5
 loop-again : tie.Need-loop-again Inv-loop μ-loop
 loop-again c = search needs
 
--- src/plain_frame.rt:29:1
 returns-2 : tie.Need-returns-2 Inv-loop μ-loop
 returns-2 c = search needs
 

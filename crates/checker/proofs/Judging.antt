@@ -1,0 +1,90 @@
+-- A judgement over the tables, and the answer that it gives, are those of the last stages: 8, or the verdict.
+use mathlib.Core.Path.{_≡_, refl, sym, ap, _∙_}
+use mathlib.Core.Bool.{Bool, true, false}
+use mathlib.Core.List.{List, [], _∷_, _++_, map}
+use Prim.Native.Nat.{ℕ, zero, suc, _+_, _-_, _<_, _≤_, min}
+use native.Mathlib.Decide.{decLt}
+use native.Mathlib.Numerals.{add-one}
+use native.Mathlib.Omega.{arith}
+use lib.ListN.{length, getD, take, drop, take-append-drop, length-take, length-drop}
+use lib.Seq.{ext-getD, getD-drop, getD-take}
+use Rattle.meaning.specs.Rules.{Bytes, Fact, Rule}
+use Rattle.meaning.specs.Values.{Value, values, in-range}
+use Rattle.meaning.specs.Outcomes as meant
+use Rattle.derived.specs.Members.{places, holds}
+use Rattle.tables.specs.Rows.{from}
+use Rattle.tables.proofs.Strides.{from-length}
+use Rattle.sentences.specs.Sentences.{sentence}
+use Rattle.judge.specs.declared.Judgement.{Judgement}
+use Rattle.judge.specs.declared.Kind.{Kind}
+use Rattle.judge.specs.declared.Kind.the-variants.{OutOfRange, Unsatisfied, Accepted, Smaller}
+use Rattle.judge.specs.Judged.{said, Lent, NoneBehind}
+use Rattle.stages.specs.Stage.{Outcome, on, stop}
+use Rattle.answered.specs.Answer as paper
+use Rattle.answered.specs.Judged.{Settled, settles}
+use Rattle.answered.specs.Answered.{rule-part}
+use Rattle.answered.proofs.Judged.{settled-is}
+use Rattle.checker.specs.declared.answer.Text.the-variants.{Program}
+use Rattle.checker.specs.declared.answer.Answer.{Answer}
+use Rattle.checker.specs.Answers.{Says}
+use Rattle.checker.specs.Told.{Tells, leaves-range, is-broken, is-accepted, is-smaller}
+use Rattle.checker.specs.Checked.{Answers}
+use Rattle.checker.proofs.Counting.{from-one-taken}
+use Rattle.checker.proofs.Saying.{accepted-says, unsatisfied-says, smaller-says}
+use Rattle.checker.proofs.Ways.{refuses, hands-on}
+
+-- ---- lists
+
+-- what is written at the start, and the rest as it was
+written : (n : ℕ) (old new : List ℕ) → n ≤ length old → length new ≡ length old → ((a : ℕ) → n ≤ a → getD new a 0 ≡ getD old a 0) → take n new ++ drop (length (take n new)) old ≡ new
+written n old new room long same =
+    let taken : length (take n new) ≡ n = length-take n new ∙ omega arith in
+    let rest : drop n old ≡ drop n new = ext-getD 0 (drop n old) (drop n new) (length-drop n old ∙ ap (λ (m : ℕ). m - n) (sym long) ∙ sym (length-drop n new)) (λ i l. getD-drop n old i 0 ∙ sym (same (n + i) (omega arith)) ∙ sym (getD-drop n new i 0)) in
+    ap (λ (m : ℕ). take n new ++ drop m old) taken ∙ ap (λ (l : List ℕ). take n new ++ l) rest ∙ take-append-drop n new
+
+-- the test from place k on, as a list
+listed : (f : ℕ → Bool) (n k i : ℕ) → i < n → getD (from f n k) i false ≡ f (k + i)
+unfolding from
+listed f zero k i l = absurd (omega arith)
+listed f (suc n) k zero l = let z : k ≡ k + 0 = omega arith in ap f z
+listed f (suc n) k (suc i) l = let z : suc k + i ≡ k + suc i = omega arith in listed f n (suc k) i (omega arith) ∙ ap f z
+
+behind : (f : ℕ → Bool) (n k i : ℕ) → n ≤ i → getD (from f n k) i false ≡ false
+unfolding from
+behind f zero k i l = refl
+behind f (suc n) k zero l = absurd (omega arith)
+behind f (suc n) k (suc i) l = behind f n (suc k) i (omega arith)
+
+all-listed : (f : ℕ → Bool) (n : ℕ) → ((a : ℕ) → n ≤ a → f a ≡ false) → (i : ℕ) → f i ≡ getD (from f n 0) i false
+all-listed f n h i =
+    elim (decLt i n) [
+      | yes l ↦ (let z : 0 + i ≡ i = omega arith in sym (listed f n 0 i l ∙ ap f z))
+      | no g ↦ h i (omega (arith, g)) ∙ sym (behind f n 0 i (omega (arith, g)))
+    ]
+
+-- ---- the answer
+
+says-as : {x y : paper.Answer} (a : Answer) → x ≡ y → Says a x → Says a y
+says-as a e s = rw (← e) s
+
+module _ (text : Bytes) (P : List (Rule Value)) (I : List (Fact Value)) (old new : List ℕ) (j : Judgement) (n : ℕ) (room : n ≤ length old) (few : n ≤ places) where
+  abbrev Here : Answer → List ℕ → Type 0
+  Here = Answers (Settled (rule-part text) P I old) old
+
+  pub told : (k : Kind) → meant.Answers values in-range P I (said k j n new) → Lent k n old new → NoneBehind k j n → (a : Answer) → Tells text j n k a → Here a new
+  unfolding said Lent NoneBehind settles paper.says
+  told OutOfRange h lent clear a leaves-range =
+      let stage = settled-is (rule-part text) P I old (meant.out-of-range (suc (j .rule))) h in
+      let e : suc (j .rule) - 1 ≡ j .rule = omega arith in
+      rw lent (refuses _ old 8 Program (sentence false text (j .rule)) (rw e at stage) a refl)
+  told Unsatisfied h lent clear a (is-broken ps f) =
+      let stage = settled-is (rule-part text) P I old _ h in
+      let one : j .rule + 1 ≡ suc (j .rule) = add-one (j .rule) in
+      let taken = from-one-taken (j .length) (j .positions) ps f in
+      rw lent (hands-on _ old _ old stage a (says-as _ (cc (one, taken)) (unsatisfied-says (j .rule + 1) (j .length) ps)))
+  told Accepted h lent clear a is-accepted =
+      let stage = settled-is (rule-part text) P I old _ h in
+      hands-on _ old _ new (rw (written n old new room (lent .0) (lent .1)) at stage) a (accepted-says n (j .rounds))
+  told Smaller h lent clear a is-smaller =
+      let stage = settled-is (rule-part text) P I old _ h in
+      rw lent (hands-on _ old _ old stage a (smaller-says (j .set) (from (holds (j .set)) n 0) (omega (arith, from-length (holds (j .set)) n 0, few)) (all-listed (holds (j .set)) n clear)))

@@ -1,0 +1,13 @@
+-- In the order in which they build on each other.
+pub mod Kept
+pub mod Saying
+pub mod Programs
+pub mod Ways
+pub mod Clashing
+pub mod Counting
+pub mod Telling
+pub mod Judging
+pub mod Bounds
+pub mod Settling
+pub mod WithFacts
+pub mod Filling

@@ -1,0 +1,4 @@
+pub mod Signs
+pub mod Rows
+pub mod Search
+pub mod Once

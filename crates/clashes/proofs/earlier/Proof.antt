@@ -1,0 +1,117 @@
+-- `earlier` meets its contract. The invariant: no fact before j is alike, and j stands in the chain of the row or past the last fact. The
+-- measure is how many facts before k are left. Assumes nothing.
+use Rattle.clashes.proofs.Search.{Passed, passed-first, passed-more, none-earlier}
+use Rattle.chains.specs.Links.{row-chain, InChain, Linked}
+use Rattle.chains.proofs.Keys.{row-below}
+use Rattle.tables.specs.Rows.{arity, fact-predicate}
+use Rattle.tables.specs.WellFormed.{FactTable}
+use Rattle.tables.proofs.Strides.{part-is}
+use Rattle.meaning.specs.Rules.{Bytes}
+use native.Mathlib.Omega.{arith}
+use Prim.Native.Nat.{ℕ, _+_, _*_, _≤_, _<_, _-_}
+use mathlib.Core.Bool.{true≢false, false≢true}
+use mathlib.Core.List.{List}
+use mathlib.Core.Path.{ap, sym, _∙_}
+use borrow.Author.Needs.{needs}
+use Rattle.clashes.proofs.earlier.Statement.{statement}
+use Rattle.clashes.proofs.earlier.Tie as tie
+
+abbrev Inv-loop : tie.InvT-loop
+Inv-loop facts links opposed k predicate arity at c j₀ j = (count : ℕ) → FactTable facts count → Linked links facts count → k < count → (j ≤ count) × (j < count → InChain facts c j) × ((names : List Bytes) → Passed names facts opposed k j)
+
+abbrev μ-loop : tie.MeasureT-loop
+μ-loop facts links opposed k predicate arity at c j₀ j = k - j
+
+mul-predicate : tie.Need-mul-predicate Inv-loop μ-loop
+mul-predicate c = search needs
+
+mul-predicate-2 : tie.Need-mul-predicate-2 Inv-loop μ-loop
+mul-predicate-2 c = search needs
+
+shared-slice-read-predicate : tie.Need-shared-slice-read-predicate Inv-loop μ-loop
+shared-slice-read-predicate c = search needs
+
+mul-at : tie.Need-mul-at Inv-loop μ-loop
+mul-at c = search needs
+
+add-at : tie.Need-add-at Inv-loop μ-loop
+add-at c = search needs
+
+add-row-chain : tie.Need-add-row-chain Inv-loop μ-loop
+add-row-chain c = search needs
+
+mul-row-chain : tie.Need-mul-row-chain Inv-loop μ-loop
+mul-row-chain c = search needs
+
+sub-row-chain : tie.Need-sub-row-chain Inv-loop μ-loop
+sub-row-chain c = search needs
+
+part-row-chain-start : tie.Need-part-row-chain-start Inv-loop μ-loop
+part-row-chain-start c = search needs
+
+part-row-chain-end : tie.Need-part-row-chain-end Inv-loop μ-loop
+part-row-chain-end c = search needs
+
+row-chain-requires : tie.Need-row-chain-requires Inv-loop μ-loop
+row-chain-requires c κs = search needs
+
+first-requires : tie.Need-first-requires Inv-loop μ-loop
+first-requires c κs = (rw (c .row-chain .ensures) (row-below _ _), c .before .before .before .before .before .pre .2 .long)
+
+loop-holds : tie.Need-loop-holds Inv-loop μ-loop
+loop-holds c = λ count table linked below.
+    let a = c .before .before .before .before .before .before .args in
+    let q = c .first .ensures (a .facts .now) count linked in
+    (q .within, q .inside, λ names. passed-first names (a .facts .now) count (a .opposed) (a .k) _ table below (c .before .row-chain .ensures ∙ ap (λ (vs : List ℕ). row-chain (fact-predicate (a .facts .now) (a .k)) vs) (part-is (a .k * 9 + 1) (arity (fact-predicate (a .facts .now) (a .k))) (a .facts .now))) _ q)
+
+alike-requires : tie.Need-alike-requires Inv-loop μ-loop
+alike-requires c κs = (c .before .before .before .before .before .before .before .before .pre .0, c .before .before .before .before .before .before .before .before .pre .1, omega (arith, c .loop-test .taken, c .before .before .before .before .before .before .before .before .pre .3), c .before .before .before .before .before .before .before .before .pre .3)
+
+returns : tie.Need-returns Inv-loop μ-loop
+returns c = λ names. (λ e. (c .before .before .before .loop .j, c .before .before .loop-test .taken, sym (c .before .alike .ensures names) ∙ c .if1 .taken), λ e. absurd (true≢false e))
+
+next-requires : tie.Need-next-requires Inv-loop μ-loop
+next-requires c κs = (rw (c .before .before .before .before .before .row-chain .ensures) (row-below _ _), omega (arith, c .before .before .before .before .before .before .before .before .before .before .pre .1 .few, c .before .before .loop-test .taken, c .before .before .before .before .before .before .before .before .before .before .pre .3), c .before .before .before .before .before .before .before .before .before .before .pre .2 .long)
+
+loop-less : tie.Need-loop-less Inv-loop μ-loop
+loop-less c = let i = c .before .before .before .before .loop .inv (c .before .before .before .before .before .before .before .before .before .before .before .pre .0) (c .before .before .before .before .before .before .before .before .before .before .before .pre .1) (c .before .before .before .before .before .before .before .before .before .before .before .pre .2) (c .before .before .before .before .before .before .before .before .before .before .before .pre .3) in
+    let h : c .before .before .before .before .loop .j < c .before .before .before .before .before .before .before .before .before .before .before .pre .0 = omega (arith, c .before .before .before .loop-test .taken, c .before .before .before .before .before .before .before .before .before .before .before .pre .3) in
+    let q = c .next .ensures (c .before .before .before .before .before .before .before .before .before .before .before .args .facts .now) (c .before .before .before .before .before .before .before .before .before .before .before .pre .0) (c .before .before .before .before .before .before .before .before .before .before .before .pre .2) h (i .1 h) in
+    omega (arith, q .rises, c .before .before .before .loop-test .taken)
+
+loop-again : tie.Need-loop-again Inv-loop μ-loop
+loop-again c = λ count table linked below.
+    let a = c .before .before .before .before .before .before .before .before .before .before .before .args in
+    let i = c .before .before .before .before .loop .inv count table linked below in
+    let h : c .before .before .before .before .loop .j < count = omega (arith, c .before .before .before .loop-test .taken, below) in
+    let q = c .next .ensures (a .facts .now) count linked h (i .1 h) in
+    (q .within, q .inside, λ names. passed-more names (a .facts .now) count (a .opposed) (a .k) _ table below (c .before .before .before .before .before .before .row-chain .ensures ∙ ap (λ (vs : List ℕ). row-chain (fact-predicate (a .facts .now) (a .k)) vs) (part-is (a .k * 9 + 1) (arity (fact-predicate (a .facts .now) (a .k))) (a .facts .now))) _ _ q (sym (c .before .before .alike .ensures names) ∙ c .before .if1 .left) (i .2 names))
+
+returns-2 : tie.Need-returns-2 Inv-loop μ-loop
+returns-2 c = λ names. (λ e. absurd (false≢true e), λ e. none-earlier names (c .before .before .before .before .before .before .before .before .args .facts .now) (c .before .before .before .before .before .before .before .before .args .opposed) (c .before .before .before .before .before .before .before .before .args .k) (c .before .loop .j) (c .loop-test .left) (c .before .loop .inv (c .before .before .before .before .before .before .before .before .pre .0) (c .before .before .before .before .before .before .before .before .pre .1) (c .before .before .before .before .before .before .before .before .pre .2) (c .before .before .before .before .before .before .before .before .pre .3) .2 names))
+
+pub earlier-spec : {M : Type 1} → statement M
+earlier-spec =
+    tie.close
+    (tie.spec
+    Inv-loop
+    μ-loop
+    mul-predicate
+    mul-predicate-2
+    shared-slice-read-predicate
+    mul-at
+    add-at
+    add-row-chain
+    mul-row-chain
+    sub-row-chain
+    part-row-chain-start
+    part-row-chain-end
+    row-chain-requires
+    first-requires
+    loop-holds
+    alike-requires
+    returns
+    next-requires
+    loop-less
+    loop-again
+    returns-2)

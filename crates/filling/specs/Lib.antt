@@ -1,0 +1,2 @@
+-- In the order to read them in.
+pub mod Rules

@@ -1,0 +1,48 @@
+-- What a judgement says, as an outcome of the meaning, and what it does with the lent places.
+use mathlib.Core.Path.{_≡_}
+use mathlib.Core.Bool.{false}
+use mathlib.Core.List.{List, map}
+use Prim.Native.Nat.{ℕ, suc, _≤_, _<_}
+use lib.ListN.{length, getD, take}
+use Rattle.meaning.specs.Rules.{Bytes, Fact, Rule}
+use Rattle.meaning.specs.Verdicts.{accepted, unsatisfied, smaller}
+use Rattle.meaning.specs.Outcomes.{Outcome, out-of-range, verdict}
+use Rattle.meaning.specs.Quick.{outcome}
+use Rattle.codes.specs.Domains.{codes, code-in-range}
+use Rattle.tables.specs.Rows.{from}
+use Rattle.derived.specs.Members.{holds}
+use Rattle.judge.specs.declared.Kind.{Kind}
+use Rattle.judge.specs.declared.Kind.the-variants.{OutOfRange, Unsatisfied, Accepted, Smaller}
+use Rattle.judge.specs.declared.Judgement.{Judgement}
+
+-- beside n atoms and the rounds in the lent places; a rule's number and positions are held from 0, and said from 1
+unfoldable pub said : Kind → Judgement → ℕ → List ℕ → Outcome
+said OutOfRange j n rounds = out-of-range (suc (j .rule))
+said Unsatisfied j n rounds = verdict (unsatisfied (suc (j .rule)) (map suc (take (j .length) (j .positions))))
+said Accepted j n rounds = verdict (accepted n (j .rounds) (take n rounds))
+said Smaller j n rounds = verdict (smaller (from (holds (j .set)) n 0))
+
+-- only ACCEPTED writes, and only the first n places
+unfoldable pub Lent : Kind → ℕ → List ℕ → List ℕ → Type 0
+Lent OutOfRange n rounds rounds′ = rounds′ ≡ rounds
+Lent Unsatisfied n rounds rounds′ = rounds′ ≡ rounds
+Lent Accepted n rounds rounds′ = (length rounds′ ≡ length rounds) × ((a : ℕ) → n ≤ a → getD rounds′ a 0 ≡ getD rounds a 0)
+Lent Smaller n rounds rounds′ = rounds′ ≡ rounds
+
+-- the set of SMALLER has none but the n atoms
+unfoldable pub NoneBehind : Kind → Judgement → ℕ → Type 0
+NoneBehind OutOfRange j n = Unit {0}
+NoneBehind Unsatisfied j n = Unit {0}
+NoneBehind Accepted j n = Unit {0}
+NoneBehind Smaller j n = (a : ℕ) → n ≤ a → holds (j .set) a ≡ false
+
+pub record Judged (names : List Bytes) (P : List (Rule ℕ)) (I : List (Fact ℕ)) (rounds rounds′ : List ℕ) (j : Judgement) : Type 0 where
+  pub says : said (j .kind) j (length I) rounds′ ≡ outcome (codes names) code-in-range P I
+  pub lent : Lent (j .kind) (length I) rounds rounds′
+  pub none-behind : NoneBehind (j .kind) j (length I)
+
+-- one list at the start of another, which is otherwise as it was
+pub record Copied (source place place′ : List ℕ) : Type 0 where
+  pub there : (i : ℕ) → i < length source → getD place′ i 0 ≡ getD source i 0
+  pub rest : (i : ℕ) → length source ≤ i → getD place′ i 0 ≡ getD place i 0
+  pub long : length place′ ≡ length place

@@ -1,0 +1,67 @@
+-- `order::comes_before` meets its contract. The invariant: the one comes before the other where what is left of it does.
+-- The measure is what is left of the first. Assumes nothing.
+use Prim.Native.Nat.{_-_}
+use mathlib.Core.Path.{_≡_, refl, sym, _∙_}
+use lib.ListN.{length, drop}
+use Rattle.meaning.specs.Values.{bytes-before}
+use Rattle.names.proofs.Before.{before-end, before-longer, before-differs, before-on}
+use borrow.Author.Needs.{needs}
+use Rattle.names.proofs.bytewise.comes_before.Statement.{statement}
+use Rattle.names.proofs.bytewise.comes_before.Tie as tie
+
+abbrev Inv-loop : tie.InvT-loop
+Inv-loop a b i₀ i = bytes-before a b ≡ bytes-before (drop i a) (drop i b)
+
+abbrev μ-loop : tie.MeasureT-loop
+μ-loop a b i₀ i = length a - i
+
+loop-holds : tie.Need-loop-holds Inv-loop μ-loop
+loop-holds c = refl
+
+returns : tie.Need-returns Inv-loop μ-loop
+returns c = sym (c .before .before .loop .inv ∙ before-longer _ _ _ (c .before .loop-test .taken) (c .if1 .taken))
+
+shared-slice-read-if2 : tie.Need-shared-slice-read-if2 Inv-loop μ-loop
+shared-slice-read-if2 c = search needs
+
+shared-slice-read-if2-2 : tie.Need-shared-slice-read-if2-2 Inv-loop μ-loop
+shared-slice-read-if2-2 c = search needs
+
+shared-slice-read-result : tie.Need-shared-slice-read-result Inv-loop μ-loop
+shared-slice-read-result c = search needs
+
+shared-slice-read-result-2 : tie.Need-shared-slice-read-result-2 Inv-loop μ-loop
+shared-slice-read-result-2 c = search needs
+
+returns-2 : tie.Need-returns-2 Inv-loop μ-loop
+returns-2 c = sym (c .before .before .before .before .before .before .before .loop .inv ∙ before-differs _ _ _ (c .before .before .before .before .before .before .loop-test .taken) (c .before .before .before .before .before .if1 .left) (c .before .before .if2 .taken))
+
+add-i : tie.Need-add-i Inv-loop μ-loop
+add-i c = search needs
+
+loop-less : tie.Need-loop-less Inv-loop μ-loop
+loop-less c = search needs
+
+loop-again : tie.Need-loop-again Inv-loop μ-loop
+loop-again c = c .before .before .before .before .before .loop .inv ∙ before-on _ _ _ (c .before .before .before .before .loop-test .taken) (c .before .before .before .if1 .left) (c .if2 .left)
+
+returns-3 : tie.Need-returns-3 Inv-loop μ-loop
+returns-3 c = sym (c .before .loop .inv ∙ before-end _ _ _ (c .loop-test .left))
+
+pub comes-before-spec : {M : Type 1} → statement M
+comes-before-spec =
+    tie.close
+    (tie.spec
+    Inv-loop
+    μ-loop
+    loop-holds
+    returns
+    shared-slice-read-if2
+    shared-slice-read-if2-2
+    shared-slice-read-result
+    shared-slice-read-result-2
+    returns-2
+    add-i
+    loop-less
+    loop-again
+    returns-3)

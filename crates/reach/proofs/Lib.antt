@@ -1,0 +1,9 @@
+pub mod Binds
+pub mod Lists
+pub mod Beforehand
+pub mod Edges
+pub mod Touching
+pub mod Positions
+pub mod Graphs
+pub mod Walked
+pub mod Moves

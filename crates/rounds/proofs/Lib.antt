@@ -1,0 +1,4 @@
+pub mod Taken
+pub mod Rules
+pub mod Levels
+pub mod Limits

@@ -1,0 +1,4 @@
+-- In the order to read them in.
+pub mod Codable
+pub mod Growth
+pub mod Coding

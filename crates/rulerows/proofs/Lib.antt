@@ -1,0 +1,10 @@
+pub mod Literals
+pub mod Stored
+pub mod Numbers
+pub mod RowParts
+pub mod Bodies
+pub mod Shapes
+pub mod Safe
+pub mod RuleRows
+pub mod Storing
+pub mod FactRows

@@ -1,0 +1,35 @@
+// A rule to its row and its literals' rows.
+ghost use Rattle.safety.specs.Scanned.{meant};
+ghost use Rattle.names.specs.Texts.{bytes-at};
+ghost use Rattle.rulerows.specs.Rules.{Storable, Stores};
+use crate::body::put_body;
+use crate::body::put_head;
+use crate::places::put_numbers;
+use lexis::Place;
+use rule::MOST_LITERALS;
+use rule::Rule;
+use tables::RULE;
+
+// The rows of a rule's literals: its head's, and its body's.
+pub const ROWS: usize = 1 + MOST_LITERALS;
+
+// The rule with a number, which stands in a part of the two texts.
+pub fn put_rule<'a>(
+    program: &'a [u8],
+    output: &'a [u8],
+    names: &mut [u32],
+    source: Place,
+    rules: &mut [u64],
+    literals: &mut [u64],
+    number: usize,
+    rule: Rule,
+)
+    requires { ⌜ Storable (now program) (now output) (now names) (now rules) (now literals) number (meant (bytes-at (now program) (now output) source) rule) ⌝ }
+    ensures { λ _. ⌜ Stores (now (program .entry)) (now (output .entry)) (now (names .entry)) (now (rules .entry)) (now (literals .entry)) number (meant (bytes-at (now (program .entry)) (now (output .entry)) source) rule) (now (names .exit)) (now (rules .exit)) (now (literals .exit)) ⌝ }
+{
+    let at = number * ROWS;
+    let first = at + 1;
+    let head = put_head(program, output, names, source, literals, at, rule);
+    put_body(program, output, names, source, literals, first, rule);
+    put_numbers(rules, number * RULE, head, first, rule);
+}

@@ -1,0 +1,135 @@
+//! The order of refusals and verdicts: the whole check, and the writer.
+
+use crate::answer::{Answer, Part, Refusal, Text, NO_ROOM, OUT_OF_RANGE};
+use crate::grammar::{self, PlacedFact};
+use crate::meaning::Outcome;
+use crate::output::{self, Report};
+use crate::plain;
+use crate::rules::{Fact, Rule};
+use crate::safety;
+use crate::wrong::{self, Wrong};
+
+/// A way to settle what a candidate means.
+pub type Settle = fn(&[Rule], &[Fact]) -> Outcome;
+
+/// What is lent to a check but its buffer: the two texts and the solver's code.
+#[derive(Clone, Copy)]
+pub struct Lent<'a> {
+    pub program: &'a [u8],
+    pub output: &'a [u8],
+    pub code: u64,
+}
+
+/// The rules of a program text: refusals 1, then 2, 3 and 4, then 5.
+pub fn read_program(text: &[u8]) -> Result<Vec<Rule>, Refusal> {
+    output::within_size(text, Text::Program)?;
+    let mut rules = grammar::rules(text)?;
+    safety::bind(&mut rules)?;
+    Ok(rules)
+}
+
+/// The whole check. Only ACCEPTED writes: each atom's round, in the first places.
+pub fn check(lent: Lent, places: &mut [u16], settle: Settle) -> Answer {
+    checked(lent, places, settle).unwrap_or_else(Answer::Refused)
+}
+
+fn checked(lent: Lent, places: &mut [u16], settle: Settle) -> Result<Answer, Refusal> {
+    let (rules, report) = both_read(lent)?;
+    consistent(lent, &report)?;
+    match report {
+        Report::Answer(facts) => {
+            enough_places(&facts, places)?;
+            let facts: Vec<Fact> = facts.into_iter().map(|placed| placed.fact).collect();
+            verdict(&rules, settle(&rules, &facts), places)
+        }
+        Report::Inconsistent => Ok(Answer::ClaimedNone),
+        Report::Unknown => Ok(Answer::ClaimedUnknown),
+    }
+}
+
+/// The program's refusals come before the output's.
+fn both_read(lent: Lent) -> Result<(Vec<Rule>, Report), Refusal> {
+    let rules = read_program(lent.program);
+    let report = output::report(lent.output);
+    if wrong::is(Wrong::OutputFirst) {
+        return report.and_then(|report| rules.map(|rules| (rules, report)));
+    }
+    rules.and_then(|rules| report.map(|report| (rules, report)))
+}
+
+/// 10 comes before 6 and 7.
+fn consistent(lent: Lent, report: &Report) -> Result<(), Refusal> {
+    let code = output::code_agrees(report, lent.code);
+    let distinct = match report {
+        Report::Answer(facts) => output::distinct(lent.output, facts),
+        _ => Ok(()),
+    };
+    if wrong::is(Wrong::CodeLast) {
+        return distinct.and(code);
+    }
+    code.and(distinct)
+}
+
+fn enough_places(facts: &[PlacedFact], places: &[u16]) -> Result<(), Refusal> {
+    let asked = facts.len() + usize::from(wrong::is(Wrong::RoomExclusive));
+    if places.len() < asked {
+        return Err(no_room(Text::Output));
+    }
+    Ok(())
+}
+
+fn no_room(text: Text) -> Refusal {
+    Refusal { number: NO_ROOM, part: Part::empty(text, 0) }
+}
+
+/// The answer for what a candidate means, its rounds written where it is accepted.
+fn verdict(rules: &[Rule], outcome: Outcome, places: &mut [u16]) -> Result<Answer, Refusal> {
+    match outcome {
+        Outcome::OutOfRange { rule } => Err(out_of_range(&rules[rule])),
+        Outcome::Broken { rule, body } => Ok(Answer::Unsatisfied { rule: rule + 1, body: from_one(&body) }),
+        Outcome::Smaller { kept } => {
+            if wrong::is(Wrong::WritesSmaller) {
+                write_rounds(&kept, places);
+            }
+            Ok(Answer::Smaller { kept: from_one(&kept) })
+        }
+        Outcome::Accepted { rounds, each } => {
+            write_rounds(&each, places);
+            Ok(Answer::Accepted { atoms: each.len(), rounds })
+        }
+    }
+}
+
+fn from_one(positions: &[usize]) -> Vec<usize> {
+    positions.iter().map(|position| position + 1).collect()
+}
+
+fn write_rounds(each: &[usize], places: &mut [u16]) {
+    for (place, round) in places.iter_mut().zip(each) {
+        *place = *round as u16;
+    }
+}
+
+fn out_of_range(rule: &Rule) -> Refusal {
+    let part = Part { text: Text::Program, start: rule.start, length: rule.length };
+    Refusal { number: OUT_OF_RANGE, part }
+}
+
+/// The writer: the plain form at the buffer's start, later bytes untouched.
+pub fn write_plain(program: &[u8], buffer: &mut [u8]) -> Answer {
+    let rules = match read_program(program) {
+        Ok(rules) => rules,
+        Err(refusal) => return Answer::Refused(refusal),
+    };
+    let form = plain::plain_form(&rules);
+    let length = form.len();
+    let asked = length + usize::from(wrong::is(Wrong::WriterRoomExclusive));
+    if buffer.len() < asked {
+        if wrong::is(Wrong::WritesRefused) {
+            buffer.fill(b' ');
+        }
+        return Answer::Refused(no_room(Text::Program));
+    }
+    buffer[..length].copy_from_slice(&form);
+    Answer::Written { length }
+}

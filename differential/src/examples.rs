@@ -1,0 +1,101 @@
+//! The paper's own examples, and texts at its fine points, each with its answer.
+
+use crate::frames::Case;
+
+/// A program, an output and a code; the answer line.
+type Checked = (&'static str, &'static str, u64, &'static str);
+/// A program and the room for its plain form; the answer.
+type Written = (&'static str, usize, &'static str);
+
+const TRACE: &str = "at(u1,north).moved(u1,north,south).held(U,S):-at(U,S).held(U,T):-held(U,S),moved(U,S,T).";
+const EITHER: &str = "a:-not b.b:-not a.";
+const NEXT: &str = "p(X):-q(Y),X=Y+1.";
+
+/// T1 to T12 of the paper: a program, its facts and the answer's words.
+const TABLE: &[(&str, &str, &str, &str)] = &[
+    (
+        TRACE,
+        "",
+        "at(u1,north). moved(u1,north,south). held(u1,north). held(u1,south).",
+        "ACCEPTED program 0 0 atoms 4 rounds 3 each 1 1 2 3 kept",
+    ),
+    (TRACE, "", "at(u1,north). moved(u1,north,south). held(u1,north).", "UNSATISFIED program 0 0 rule 4 body 3 2 kept"),
+    ("", "", "", "ACCEPTED program 0 0 atoms 0 rounds 0 each kept"),
+    ("a:-b.b:-a.", "", "a. b.", "SMALLER program 0 0 atoms kept"),
+    (EITHER, "", "a.", "ACCEPTED program 0 0 atoms 1 rounds 1 each 1 kept"),
+    (EITHER, "", "a. b.", "SMALLER program 0 0 atoms kept"),
+    (EITHER, "", "", "UNSATISFIED program 0 0 rule 1 body kept"),
+    ("a:-not a.", "", "a.", "SMALLER program 0 0 atoms kept"),
+    ("a.:-a.", "", "a.", "UNSATISFIED program 0 0 rule 2 body 1 kept"),
+    (NEXT, "q(a).", "q(a).", "ACCEPTED program 0 0 atoms 1 rounds 1 each 1 kept"),
+    (NEXT, "q(999999999).", "q(999999999). p(1000000000).", "ACCEPTED program 0 0 atoms 2 rounds 2 each 1 2 kept"),
+    (NEXT, "q(1000000000).", "q(1000000000).", "REFUSED 8 program 0 17 kept"),
+];
+
+const POINTS: &[Checked] = &[
+    ("", "ANSWER", 10, "REFUSED 2 output 6 0 kept"),
+    ("", "ANSWER\n", 10, "REFUSED 2 output 7 0 kept"),
+    ("", "ANSWER\n\n", 10, "ACCEPTED program 0 0 atoms 0 rounds 0 each kept"),
+    ("", "ANSWERS\n \t", 10, "ACCEPTED program 0 0 atoms 0 rounds 0 each kept"),
+    ("", "%*\n\nUNKNOWN", 1, "CLAIMED-UNKNOWN program 0 0 kept"),
+    ("", "INCONSISTENT\na.\n", 20, "REFUSED 2 output 13 2 kept"),
+    ("", " \nUNKNOWN", 1, "REFUSED 2 output 0 1 kept"),
+    ("", "ANSWER\r\na.\r\n", 10, "REFUSED 2 output 10 1 kept"),
+    ("", "ANSWER\na. % b", 10, "REFUSED 2 output 10 1 kept"),
+    ("", "ANSWER\np(X).", 10, "REFUSED 2 output 9 1 kept"),
+    ("", "ANSWER\na", 30, "REFUSED 2 output 8 0 kept"),
+    ("", "ANSWER\na.", 30, "REFUSED 10 output 0 0 kept"),
+    ("", "ANSWER\na.", 266, "REFUSED 10 output 0 0 kept"),
+    ("", "ANSWER\np(-0). p( 0 ) .", 10, "REFUSED 6 output 14 8 kept"),
+    ("", "ANSWER\np. - p().", 10, "REFUSED 7 output 10 6 kept"),
+    ("a. % b", "UNKNOWN", 1, "CLAIMED-UNKNOWN program 0 0 kept"),
+    ("a:- % b", "UNKNOWN", 1, "REFUSED 2 program 7 0 kept"),
+    ("a:", "UNKNOWN", 1, "REFUSED 2 program 1 1 kept"),
+    ("a.%*b", "UNKNOWN", 1, "REFUSED 2 program 2 1 kept"),
+    ("p(007).", "UNKNOWN", 1, "REFUSED 2 program 3 1 kept"),
+    ("p(_a).", "UNKNOWN", 1, "REFUSED 2 program 3 1 kept"),
+    ("a:-not X=1.", "UNKNOWN", 1, "REFUSED 2 program 7 1 kept"),
+    ("a:--a=b.", "UNKNOWN", 1, "REFUSED 2 program 5 1 kept"),
+    ("a:-not -1=1.", "UNKNOWN", 1, "REFUSED 2 program 8 1 kept"),
+    ("p(1000000001).", "UNKNOWN", 1, "REFUSED 3 program 2 10 kept"),
+    ("p(- 1000000001).", "UNKNOWN", 1, "REFUSED 3 program 4 10 kept"),
+    ("p(1,2,3,4,5,6,7,8,1000000001).", "UNKNOWN", 1, "REFUSED 3 program 18 10 kept"),
+    ("p(1,2,3,4,5,6,7,8,-1000000001).", "UNKNOWN", 1, "REFUSED 4 program 18 1 kept"),
+    ("p(X).", "UNKNOWN", 1, "REFUSED 5 program 2 1 kept"),
+    ("p(Y):-q(X),Y=Z,3=Z.", "UNKNOWN", 1, "REFUSED 5 program 2 1 kept"),
+    ("p:-_=5,X=_.", "UNKNOWN", 1, "REFUSED 5 program 7 1 kept"),
+    ("p(Z):-Z=Y+1,Y=X,X=1.", "ANSWER\np(2).", 10, "ACCEPTED program 0 0 atoms 1 rounds 1 each 1 kept"),
+    ("a.b:-a,a.", "ANSWER\na.", 10, "UNSATISFIED program 0 0 rule 2 body 1 1 kept"),
+    ("q(a).:-q(X),X!=1.", "ANSWER\nq(a).", 10, "ACCEPTED program 0 0 atoms 1 rounds 1 each 1 kept"),
+    ("q(1).p:-q(Y),not q(X),X=Y+1.", "ANSWER\nq(1).", 10, "UNSATISFIED program 0 0 rule 2 body 1 kept"),
+    ("q(a).p:-q(Y),not q(X),X=Y+1.", "ANSWER\nq(a).", 10, "ACCEPTED program 0 0 atoms 1 rounds 1 each 1 kept"),
+    ("p:-1=2,3=1000000000*2. %", "ANSWER\n\n", 10, "REFUSED 8 program 0 22 kept"),
+];
+
+const FORMS: &[Written] = &[
+    ("", 0, "WRITTEN program 0 0 length 0 kept\n\n"),
+    ("a :- not\n b, X <> - 0, q( X ) . % c", 20, "WRITTEN program 0 0 length 19 kept\na:-not b,X!=0,q(X).\n"),
+    ("p():- not - q , X=1--0,X=-0-0.", 23, "WRITTEN program 0 0 length 21 kept\np:-not-q,X=1-0,X=0-0.\n"),
+    ("a.", 1, "REFUSED 9 program 0 0 kept\n"),
+    ("p(X).", 0, "REFUSED 5 program 2 1 kept\n"),
+];
+
+/// Every example with its answer.
+pub fn all() -> Vec<(Case, Vec<u8>)> {
+    let table = TABLE.iter().map(|(rules, more, facts, line)| {
+        let output = format!("ANSWER\n{facts}\n");
+        (check(&format!("{rules}{more}"), &output, 10), format!("{line}\n").into_bytes())
+    });
+    let points = POINTS
+        .iter()
+        .map(|(program, output, code, line)| (check(program, output, *code), format!("{line}\n").into_bytes()));
+    let forms = FORMS.iter().map(|(program, room, answer)| {
+        let program = program.as_bytes().to_vec();
+        (Case::Plain { room: *room, program }, answer.as_bytes().to_vec())
+    });
+    table.chain(points).chain(forms).collect()
+}
+
+fn check(program: &str, output: &str, code: u64) -> Case {
+    Case::Check { code, places: 8, program: program.as_bytes().to_vec(), output: output.as_bytes().to_vec() }
+}

@@ -1,0 +1,171 @@
+//! Texts at the sizes' ends: one below, at, and one past each.
+
+use crate::random::Random;
+
+/// A program and a facts line at or past some size.
+pub struct Sized {
+    pub program: Vec<u8>,
+    pub facts: Vec<u8>,
+    /// The output's whole length, where it is filled up to one.
+    pub output_length: Option<usize>,
+}
+
+/// A text pair around one of the sizes.
+pub fn sized(random: &mut Random) -> Sized {
+    match random.below(22) {
+        0..=2 => program_only(words(random)),
+        3 | 4 => facts_only(long_fact(random)),
+        5..=7 => program_only(arguments(random)),
+        8 | 9 => facts_only(format!("{}.", atom_with_arguments(random))),
+        10..=12 => program_only(literals(random)),
+        13..=15 => program_only(variables(random)),
+        16 => program_only(rules(random)),
+        17 => many_facts(random),
+        18..=20 => number(random),
+        _ => padded(random),
+    }
+}
+
+fn program_only(text: String) -> Sized {
+    Sized { program: text.into_bytes(), facts: b"a.".to_vec(), output_length: None }
+}
+
+fn facts_only(text: String) -> Sized {
+    Sized { program: Vec::new(), facts: text.into_bytes(), output_length: None }
+}
+
+/// A number about a size: mostly the last that is allowed or the first that is not.
+fn about(random: &mut Random, most: usize) -> usize {
+    most + random.between(0, 3) - random.between(0, 1)
+}
+
+fn word(random: &mut Random, first: char) -> String {
+    let length = if random.chance(75) { about(random, 64) } else { random.between(1, 3) };
+    let rest: String = (1..length).map(|_| random.pick(&["a", "Z", "_", "9"])).collect();
+    format!("{first}{rest}")
+}
+
+/// Names and variables about 64 bytes, where they may stand and where they may not.
+fn words(random: &mut Random) -> String {
+    let name = word(random, 'a');
+    let variable = word(random, 'V');
+    match random.below(9) {
+        0 => format!("{name}."),
+        1 => format!("-{name}(1)."),
+        2 => format!("p({name}):-not {name}."),
+        3 => format!("p:-q({variable}),{variable}=1."),
+        4 => format!("p:-{name}={name}."),
+        5 => format!("p {name}."),
+        6 => format!("p:-not {variable}."),
+        7 => format!("p({variable}):-{variable}=-{name}."),
+        _ => format!("a.{name}({variable},1):-{name}({variable},{name}),not -{name}."),
+    }
+}
+
+fn long_fact(random: &mut Random) -> String {
+    let name = word(random, 'n');
+    match random.below(4) {
+        0 => format!("{name}."),
+        1 => format!("a.-{name}({name})."),
+        2 => format!("p({}).", word(random, 'V')),
+        _ => format!("p {name}."),
+    }
+}
+
+fn arguments(random: &mut Random) -> String {
+    let atom = atom_with_arguments(random);
+    match random.below(3) {
+        0 => format!("{atom}."),
+        1 => format!(":-{atom}."),
+        _ => format!("a:-b,not {atom}."),
+    }
+}
+
+/// An atom with about 8 arguments, the last of them of any kind.
+fn atom_with_arguments(random: &mut Random) -> String {
+    let count = about(random, 8);
+    let mut arguments = vec!["1".to_string(); count - 1];
+    arguments
+        .push(random.pick(&["1", "-1", "a", "1000000001", "-1000000001", "X", "_", ")", "not", "-", "-a"]).to_string());
+    format!("p({})", arguments.join(","))
+}
+
+fn literals(random: &mut Random) -> String {
+    let count = about(random, 16);
+    let mut body = Vec::new();
+    for _ in 1..count {
+        body.push(random.pick(&["a", "not b", "1=1", "-c", "p(1)"]).to_string());
+    }
+    let last =
+        random.pick(&["a", "not a", "1000000001=1", "-1000000001=1", "-a", "X=1", "_=1", ":-", ".", "not", "a(", "-"]);
+    body.push(last.to_string());
+    format!("a:-{}.", body.join(","))
+}
+
+/// A rule with about 16 variables, some of them `_`, head first.
+fn variables(random: &mut Random) -> String {
+    let count = about(random, 16);
+    let mut names: Vec<String> = (0..count).map(|place| format!("V{place}")).collect();
+    for name in names.iter_mut().filter(|_| random.chance(20)).collect::<Vec<_>>() {
+        *name = "_".to_string();
+    }
+    if random.chance(30) {
+        names.push("V0".to_string());
+    }
+    let atoms: Vec<String> = names.chunks(8).map(|part| format!("p({})", part.join(","))).collect();
+    let head = random.pick(&["a", "q(V0)", "q(V1,V0)", "", "q(W)"]);
+    format!("{head}:-{}.", atoms.join(","))
+}
+
+fn rules(random: &mut Random) -> String {
+    let count = about(random, 256);
+    let last = random.pick(&["a.", ":-b.", "-a.", "a:-", ").", "p(X).", ":-", "not.", "1.", "a"]);
+    let mut text = "a.".repeat(count - 1);
+    text.push_str(last);
+    text
+}
+
+fn many_facts(random: &mut Random) -> Sized {
+    let count = about(random, 1_024);
+    let mut facts: String = (1..count).map(|fact| format!("p({fact}).")).collect();
+    facts.push_str(random.pick(&["p(a).", "-p(a).", "p(1).", "p", "-", ")", "X.", "p(X).", "-p(2)."]));
+    Sized {
+        program: random.pick(&["p(1).", "p(X):-p(Y),X=Y+1,X<1024.p(1).p(a).", "p(1).p(X):-p(X)."]).into(),
+        facts: facts.into_bytes(),
+        output_length: None,
+    }
+}
+
+/// Numbers about the range's ends, and long ones.
+fn number(random: &mut Random) -> Sized {
+    let number = random.pick(&[
+        "1000000000", "1000000001", "999999999", "4294967297", "18446744073709551617", "10000000000", "2000000000",
+    ]);
+    let sign = random.pick(&["", "-", "- ", "--"]);
+    let number = if random.chance(5) { "9".repeat(random.between(20, 5_000)) } else { number.to_string() };
+    match random.below(5) {
+        0 => facts_only(format!("p({sign}{number}).")),
+        1 => program_only(format!("p({sign}{number}).")),
+        2 => program_only(format!("p:-{sign}{number}=1.")),
+        3 => program_only(format!("p(X):-X=1-{sign}{number}.")),
+        _ => program_only(format!("p {sign}{number}.")),
+    }
+}
+
+/// Texts about 65,536 bytes, filled up by comments or blanks, with what matters at their ends.
+fn padded(random: &mut Random) -> Sized {
+    let length = about(random, 65_536);
+    let rules = b"at(u1,north).held(U,S):-at(U,S).";
+    let mut program = rules.to_vec();
+    if random.chance(60) {
+        let filling = random.pick(&["%", " ", "\n"]).as_bytes()[0];
+        program = vec![filling; length - rules.len() - 1];
+        program.push(b'\n');
+        program.extend_from_slice(rules);
+    }
+    Sized {
+        program,
+        facts: random.pick(&["at(u1,north). held(u1,north).", "at(u1,north).", "at(u1,north). held(u1,south)."]).into(),
+        output_length: random.chance(60).then(|| about(random, 65_536)),
+    }
+}

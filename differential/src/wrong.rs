@@ -1,0 +1,112 @@
+//! Wrong builds of the checker. Each is a flag that one place of the code consults; they show that the comparison
+//! can fail. The honest checker runs with none of them.
+
+use std::cell::Cell;
+
+macro_rules! builds {
+    ($($build:ident $name:literal $words:literal)*) => {
+        /// One wrong build.
+        #[derive(Clone, Copy, Debug, PartialEq, Eq)]
+        pub enum Wrong { $($build),* }
+
+        /// Each wrong build, its name for the command line, and what it does wrong.
+        pub const BUILDS: &[(Wrong, &str, &str)] = &[$((Wrong::$build, $name, $words)),*];
+    };
+}
+
+builds! {
+    CommentEatsToken "comment-eats-token" "a comment takes the byte behind its newline with it"
+    BlockComment "block-comment" "%* starts a comment"
+    CarriageReturn "carriage-return" "a carriage return is a blank"
+    LeadingZeros "leading-zeros" "007 is one number"
+    UnderscoreWord "underscore-word" "_a is one variable"
+    UnequalReadsLess "unequal-reads-less" "<> is read as <"
+    NotIsPrefix "not-is-prefix" "a name that begins with not is the keyword and a name"
+    CommentOnFacts "comment-on-facts" "a comment may stand on the facts line"
+    SharedUnderscore "shared-underscore" "every _ of a rule is one variable"
+    NameOf65 "name-of-65" "a name may have 65 bytes"
+    RulesOf257 "rules-of-257" "a program may have 257 rules"
+    LiteralsOf15 "literals-of-15" "a body may have 15 literals only"
+    ArgumentsOf9 "arguments-of-9" "an atom may have 9 arguments"
+    VariablesOf17 "variables-of-17" "a rule may have 17 variables"
+    UnderscoreUncounted "underscore-uncounted" "_ does not count towards the 16 variables"
+    FactsOf1025 "facts-of-1025" "a candidate may have 1,025 facts"
+    CommaBlamed "comma-blamed" "the comma before a ninth argument is handed back"
+    NumberWithMinus "number-with-minus" "refusal 3 hands back the minus too"
+    NumberOneMore "number-one-more" "1,000,000,001 is a number"
+    SizeBeforeGrammar "size-before-grammar" "a long name is refused with 4 where no name may stand"
+    NoEmptyArguments "no-empty-arguments" "p() is refused"
+    EndAtLastToken "end-at-last-token" "a text's end is its last token's"
+    RuleFromLastDot "rule-from-last-dot" "a rule's text begins behind the dot before it"
+    TextOf65537 "text-of-65537" "a text may have 65,537 bytes"
+    OneScan "one-scan" "the equations are scanned once"
+    RightBinds "right-binds" "3=X binds X"
+    NegatedBinds "negated-binds" "a negated atom binds its variables"
+    LastUnbound "last-unbound" "refusal 5 hands back the last unbound variable of its rule"
+    OutputFirst "output-first" "the output's refusals come before the program's"
+    BlankLineEmpty "blank-line-empty" "a line of blanks counts as empty"
+    ReportWholeLine "report-whole-line" "nothing may follow the report's word"
+    AnswerAlone "answer-alone" "ANSWER with no second line has no facts"
+    BehindReport "behind-report" "lines behind the facts are not looked at"
+    LineWithNewline "line-with-newline" "a line out of place is handed back with its newline"
+    CodeLowBits "code-low-bits" "16 bits of the code are compared"
+    CodeLast "code-last" "refusal 10 comes behind 6 and 7"
+    RepeatByText "repeat-by-text" "facts are equal where their bytes are"
+    OppositeAllowed "opposite-allowed" "a and -a may both be facts"
+    RoomExclusive "room-exclusive" "as many places as facts are too few"
+    WritesSmaller "writes-smaller" "SMALLER writes the rounds too"
+    SignIgnored "sign-ignored" "a and -a are one predicate"
+    ArityIgnored "arity-ignored" "a predicate is a sign and a name"
+    ProgramValuesOnly "program-values-only" "only instances over the program's own values are tried"
+    RangeAfterVerdict "range-after-verdict" "refusal 8 comes behind UNSATISFIED"
+    RangeLastRule "range-last-rule" "refusal 8 hands back the last such rule"
+    RangeTrueBodies "range-true-bodies" "refusal 8 looks only at matchings whose comparisons hold"
+    RangeBindingOnly "range-binding-only" "refusal 8 looks only at the equations that bind"
+    RangeExclusive "range-exclusive" "a result of 1,000,000,000 is out of range"
+    ProductWraps "product-wraps" "products are kept in 32 bits"
+    NameAsZero "name-as-zero" "a name counts as 0 in arithmetic"
+    NamePassedOver "name-passed-over" "an operation on a name is passed over"
+    KindsOrdered "kinds-ordered" "numbers are below names"
+    KindsUnequal "kinds-unequal" "!= holds between a number and a name"
+    ShorterNameFirst "shorter-name-first" "names compare by length first"
+    NegationIgnored "negation-ignored" "not a holds whatever the candidate has"
+    ConstraintsIgnored "constraints-ignored" "a rule with no head breaks nothing"
+    LastBroken "last-broken" "the last broken instance of the first broken rule is shown"
+    LastBrokenRule "last-broken-rule" "the last rule that has a broken instance is shown"
+    OrderFromRight "order-from-right" "positions are ordered from the last literal"
+    BodyOnce "body-once" "an atom that stands twice in a body is shown once"
+    Supported "supported" "an atom is founded where some rule with it as head has a true body"
+    RoundsOneOff "rounds-one-off" "ROUNDS is one more"
+    RoundsInOrder "rounds-in-order" "atoms of a round are used in the same round"
+    RoundOneCopied "round-one-copied" "round 1 is derived, and the rest copied from the candidate"
+    KeptNotLeast "kept-not-least" "SMALLER shows every atom that has a true body"
+    AcceptsAll "accepts-all" "whatever is not broken is accepted in one round"
+    SmallerAll "smaller-all" "whatever is not broken is smaller"
+    WritesOtherUnequal "writes-other-unequal" "the plain form has <>"
+    WritesMinusZero "writes-minus-zero" "the plain form has -0 for 0"
+    BlankBehindNot "blank-behind-not" "the plain form has a blank between not and a minus"
+    WriterRoomExclusive "writer-room-exclusive" "room of just the plain form's length is too short"
+    WritesRefused "writes-refused" "the writer fills the buffer before it refuses with 9"
+}
+
+thread_local! {
+    static BUILD: Cell<Option<Wrong>> = const { Cell::new(None) };
+}
+
+/// Whether the checker runs as this wrong build.
+pub fn is(build: Wrong) -> bool {
+    BUILD.with(Cell::get) == Some(build)
+}
+
+/// Runs `work` as a wrong build, or as the honest one.
+pub fn run_as<T>(build: Option<Wrong>, work: impl FnOnce() -> T) -> T {
+    BUILD.with(|now| now.set(build));
+    let done = work();
+    BUILD.with(|now| now.set(None));
+    done
+}
+
+/// The wrong build of a name.
+pub fn named(name: &str) -> Option<Wrong> {
+    BUILDS.iter().find(|b| b.1 == name).map(|b| b.0)
+}
