@@ -1,12 +1,11 @@
 -- The loop over the arguments of an atom: the numbers so far stand for the terms so far.
-use mathlib.Core.Path.{_≡_, refl, sym, ap, ap₂, _∙_}
-use mathlib.Core.List.{List, [], _∷_, _++_, map, map-map, map-append}
-use Prim.Native.Nat.{ℕ, suc, _+_, _≤_, _<_, min}
+use mathlib.Core.Path.{_≡_, _∙_}
+use mathlib.Core.List.{List, [], _∷_, map, map-map, map-append}
+use Prim.Native.Nat.{ℕ, _+_, _≤_, _<_, min}
 use native.Mathlib.Omega.{arith}
 use native.Mathlib.Numerals.{add-one}
 use lib.ListN.{length, getD, take, set, length-set}
 use lib.Seq.{take-suc, take-suc-set}
-use Rattle.lexis.specs.declared.Place.{Place}
 use Rattle.meaning.specs.Rules.{Bytes, Term}
 use Rattle.meaning.specs.Values.{Value}
 use Rattle.codes.specs.Related.{Pairwise, end, pair}
@@ -16,8 +15,7 @@ use Rattle.rule.specs.declared.Arguments as value-arguments
 use Rattle.rule.specs.Plain.{meant-term}
 use Rattle.rule.specs.Stands.{term-of, arguments-of}
 use Rattle.rule.specs.Build.{noTerm}
-use Rattle.names.specs.Texts.{bytes-at}
-use Rattle.names.specs.Table.{names-of, Table}
+use Rattle.names.specs.Table.{names-of}
 use Rattle.rows.specs.Codable.{Every, CodableTerm}
 use Rattle.rows.specs.Growth.{Room, Grows}
 use Rattle.rows.specs.Coding.{CodedTerm, Codes}

@@ -1,8 +1,7 @@
 -- What `atom_codes` gives: the predicate's number and the arguments' stand for the atom.
-use mathlib.Core.Path.{_≡_, refl, sym, ap, ap₂, _∙_}
-use mathlib.Core.Bool.{Bool}
+use mathlib.Core.Path.{_≡_, sym, ap, _∙_}
 use mathlib.Core.List.{List, [], _∷_, map}
-use Prim.Native.Nat.{ℕ, _%_, _≤_, _<_, min}
+use Prim.Native.Nat.{ℕ, min}
 use native.Mathlib.Omega.{arith}
 use lib.ListN.{length, take}
 use Rattle.lexis.specs.declared.Place.{Place}
@@ -23,7 +22,6 @@ use Rattle.names.specs.Texts.{bytes-at}
 use Rattle.names.specs.Table.{names-of}
 use Rattle.names.specs.Numbering.{Interns}
 use Rattle.names.proofs.Numbered.{grown-coded-name}
-use Rattle.rows.specs.declared.atom.AtomCodes.{AtomCodes}
 use Rattle.rows.specs.Codable.{Every, CodableTerm, CodableAtom}
 use Rattle.rows.specs.Growth.{Room}
 use Rattle.rows.specs.Coding.{CodedTerm, CodedAtom, Codes}

@@ -4,8 +4,7 @@ use mathlib.Core.List.{List}
 use Prim.Native.Nat.{ℕ, _<_}
 use native.Mathlib.Omega.{arith}
 use Rattle.lexis.specs.declared.Place.{Place}
-use Rattle.meaning.specs.Rules.{Bytes, Term}
-use Rattle.meaning.specs.Values.{Value}
+use Rattle.meaning.specs.Rules.{Bytes}
 use Rattle.codes.specs.Arithmetic.{comparison-at, operation-at}
 use Rattle.tables.specs.Rows.{no-operation}
 use Rattle.rule.specs.declared.Literal as value-literal

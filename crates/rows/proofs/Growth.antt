@@ -1,5 +1,5 @@
 -- Laws of the table of names as it grows: what stood for something stands for it still.
-use mathlib.Core.Path.{_≡_, refl, sym, ap, _∙_}
+use mathlib.Core.Path.{sym, ap, _∙_}
 use mathlib.Core.Option.{none, some}
 use mathlib.Core.List.{List, [], _∷_, _++_, append-assoc, append-nil}
 use Prim.Native.Nat.{ℕ, _+_, _≤_}
@@ -10,9 +10,9 @@ use Rattle.meaning.specs.Rules.{Bytes, Term, plain, Atom, Fact, Literal, builti
 use Rattle.meaning.specs.Values.{Value}
 use Rattle.codes.specs.Codes.{Coded}
 use Rattle.codes.specs.Predicates.{CodedName}
-use Rattle.codes.specs.Related.{Pairwise, end, pair, Perhaps, neither, both, RelatedTerm, RelatedAtom, RelatedSide, both-plain, RelatedLiteral, both-builtin, RelatedRule}
+use Rattle.codes.specs.Related.{Pairwise, end, pair, Perhaps, neither, both, RelatedTerm, RelatedAtom, both-plain, RelatedLiteral, both-builtin, RelatedRule}
 use Rattle.codes.proofs.Pairwise.{pairwise-more}
-use Rattle.codes.proofs.Names.{coded-more, coded-name-more, coded-fact-more, coded-rule-more}
+use Rattle.codes.proofs.Names.{coded-name-more, coded-fact-more, coded-rule-more}
 use Rattle.names.specs.declared.Found.the-variants.{At}
 use Rattle.names.specs.Table.{names-of, Table}
 use Rattle.names.specs.Numbering.{Interns}
@@ -58,9 +58,6 @@ module _ (program output : Bytes) where
     room-after k r l = record { in-order = g .in-order; room = let a = g .few in let b = r .room in omega (arith, simp length-append at (ap length (g .behind))) }
 
     -- ---- what stood for something stands for it still
-
-    pub keeps-code : (c : ℕ) (v : Value) → Coded (names-of program output names) c v → Coded (names-of program output names′) c v
-    keeps-code c v h = rw (g .behind) (coded-more _ (g .more) c v h)
 
     pub keeps-name : (c n : Bytes) → CodedName (names-of program output names) c n → CodedName (names-of program output names′) c n
     keeps-name c n h = rw (g .behind) (coded-name-more _ (g .more) c n h)

@@ -1,33 +1,24 @@
 -- Rows of literals: an atom's row, and a built-in's, stand for the literal.
-use mathlib.Core.Path.{_≡_, refl, sym, ap, _∙_}
-use mathlib.Core.Bool.{Bool, true, false, cond, true≢false, false≢true}
+use mathlib.Core.Path.{_≡_, refl}
+use mathlib.Core.Bool.{Bool, true, false}
 use mathlib.Core.List.{List, [], _∷_}
-use Prim.Native.Nat.{ℕ, _≤_, _<_}
+use Prim.Native.Nat.{ℕ, _<_}
 use native.Mathlib.Omega.{arith}
 use lib.Dec.{eqb, ltb}
 use lib.ListN.{length, getD}
-use borrow.Author.Tests.{eqb-true, eqb-false, eq-eqb, ne-eqb, lt-ltb, le-ltb, ltb-true, ltb-false}
-use Rattle.lexis.specs.declared.Place.{Place}
-use Rattle.meaning.specs.Domain.{Comparison, Operation}
-use Rattle.meaning.specs.Rules.{Bytes, Term, Side, plain, computed, Literal, positive, negated, builtin}
+use borrow.Author.Tests.{eqb-true, eqb-false, eq-eqb, ne-eqb, ltb-true, ltb-false}
+use Rattle.meaning.specs.Rules.{Bytes, Term, plain, computed, positive, negated, builtin}
 use Rattle.meaning.specs.Values.{Value}
-use Rattle.codes.specs.Codes.{no-value, Coded}
+use Rattle.codes.specs.Codes.{Coded}
 use Rattle.codes.specs.Arithmetic.{comparison-at, operation-at}
-use Rattle.codes.specs.Predicates.{CodedName}
-use Rattle.codes.specs.Related.{RelatedSide, both-plain, both-computed, RelatedLiteral, both-positive, both-negated, both-builtin}
-use Rattle.tables.specs.Rows.{literal-column, atom-at, side-at, literal-at, no-operation}
-use Rattle.tables.specs.WellFormed.{SideRow}
+use Rattle.codes.specs.Related.{RelatedSide, both-plain, both-computed, both-positive, both-negated, both-builtin}
+use Rattle.tables.specs.Rows.{atom-at, side-at, literal-at, no-operation}
 use Rattle.rule.specs.declared.Literal as value-literal
-use Rattle.rule.specs.Plain.{meant-literal}
-use Rattle.rule.specs.Stands.{comparison-of, operation-of, literal-of}
+use Rattle.rule.specs.Stands.{comparison-of, operation-of}
 use Rattle.safety.proofs.Meant.{term, atom, side, literal, LiteralIs, is-positive, is-negated, is-builtin, literal-is}
-use Rattle.names.specs.Texts.{bytes-at}
-use Rattle.names.specs.Table.{names-of}
 use Rattle.rows.specs.declared.atom.AtomCodes.{AtomCodes}
 use Rattle.rows.specs.Codable.{CodableTerm, CodableAtom, CodableSide, CodableLiteral}
-use Rattle.rows.specs.Growth.{Room, Grows}
-use Rattle.rows.specs.Coding.{CodedTerm, CodedAtom, CodedLiteral, Codes}
-use Rattle.rows.proofs.Growth.{grows-none, grows-then, room-after, room-less, keeps-term}
+use Rattle.rows.specs.Coding.{CodedTerm, CodedAtom, CodedLiteral}
 
 -- ---- the eight numbers of an array, one by one
 

@@ -1,8 +1,8 @@
 -- Numbers of terms, by the kind of the term's token.
-use mathlib.Core.Path.{_≡_, refl, sym, _∙_}
+use mathlib.Core.Path.{_≡_, refl}
 use mathlib.Core.Bool.{Bool, true, false}
 use mathlib.Core.Option.{some}
-use mathlib.Core.List.{List, [], _∷_}
+use mathlib.Core.List.{List}
 use Prim.Native.Nat.{ℕ, zero, suc, _+_, _-_, _≤_, _<_}
 use native.Mathlib.Omega.{arith}
 use lib.Dec.{eqb}
@@ -10,9 +10,9 @@ use lib.ListN.{getElem?}
 use lib.IntN.{ℤ}
 use borrow.Author.Tests.{eq-eqb, ne-eqb, lt-ltb, le-ltb}
 use Rattle.lexis.specs.Tokens.{part}
-use Rattle.meaning.specs.Rules.{Bytes, Term, constant, variable}
-use Rattle.meaning.specs.Values.{Value, number, name, in-range}
-use Rattle.codes.specs.Codes.{zero-code, first-name, number-code, Coded, as-number, as-name}
+use Rattle.meaning.specs.Rules.{Bytes, constant, variable}
+use Rattle.meaning.specs.Values.{number, name, in-range}
+use Rattle.codes.specs.Codes.{zero-code, first-name, number-code, as-number, as-name}
 use Rattle.codes.specs.Related.{both-constant, both-variable}
 use Rattle.codes.proofs.Numbers.{range-up, range-down, number-least, code-is-number}
 use Rattle.tables.specs.Rows.{term-of}

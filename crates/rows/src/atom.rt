@@ -3,7 +3,7 @@ ghost use mathlib.Core.List.{map};
 ghost use lib.ListN.{take};
 ghost use Rattle.codes.specs.Related.{Pairwise};
 ghost use Rattle.rule.specs.Plain.{meant-term, meant-atom};
-ghost use Rattle.rule.specs.Stands.{term-of, arguments-of, atom-of};
+ghost use Rattle.rule.specs.Stands.{arguments-of, atom-of};
 ghost use Rattle.names.specs.Texts.{bytes-at};
 ghost use Rattle.rows.specs.Codable.{Every, CodableTerm, CodableAtom};
 ghost use Rattle.rows.specs.Growth.{Room};

@@ -1,17 +1,15 @@
 -- The rows of a head and of a body, stored one after the other, stand for them.
 use mathlib.Core.Path.{_≡_, refl, sym, ap, _∙_}
-use mathlib.Core.Bool.{Bool, true, false}
-use mathlib.Core.Option.{none, some}
+use mathlib.Core.Bool.{true, false}
+use mathlib.Core.Option.{some}
 use mathlib.Core.List.{List, [], _∷_, _++_, map, map-append}
-use Prim.Native.Nat.{ℕ, zero, suc, _+_, _*_, _≤_, _<_, min}
+use Prim.Native.Nat.{ℕ, _+_, _*_, _≤_, _<_, min}
 use native.Mathlib.Omega.{arith}
 use native.Mathlib.Numerals.{add-one}
-use lib.ListN.{length, getD, take, drop}
+use lib.ListN.{length, getD, take}
 use lib.Seq.{take-suc}
-use borrow.Author.Tests.{eq-eqb, ne-eqb}
-use Rattle.lexis.specs.declared.Place.{Place}
-use Rattle.meaning.specs.Rules.{Bytes, Term, Atom, Literal, Rule}
-use Rattle.meaning.specs.Values.{Value}
+use borrow.Author.Tests.{ne-eqb}
+use Rattle.meaning.specs.Rules.{Bytes}
 use Rattle.codes.specs.Related.{Pairwise, end, pair, both, neither}
 use Rattle.codes.proofs.Pairwise.{pairwise-more, pairwise-append}
 use Rattle.tables.specs.Rows.{from, no-literal, no-operation, atom-with, atom-at, head-at}

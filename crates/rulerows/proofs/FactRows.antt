@@ -9,17 +9,16 @@ use lib.Dec.{ltb}
 use lib.ListN.{length, getD, take, drop}
 use borrow.Author.Tests.{ltb-false}
 use Rattle.meaning.specs.Sets.{In}
-use Rattle.meaning.specs.Rules.{Bytes, Term, constant, variable, Atom, Fact}
+use Rattle.meaning.specs.Rules.{Bytes, Term, constant, Atom, Fact}
 use Rattle.meaning.specs.Values.{Value}
 use Rattle.codes.specs.Codes.{no-value, Coded}
-use Rattle.codes.specs.Predicates.{CodedName}
-use Rattle.codes.specs.Related.{Pairwise, end, pair, RelatedTerm, both-constant, both-variable, RelatedAtom}
+use Rattle.codes.specs.Related.{Pairwise, end, pair, RelatedTerm, both-constant}
 use Rattle.tables.specs.Rows.{term-of, arity, atom-with, fact-predicate, fact-arguments, fact-at}
 use Rattle.names.specs.Table.{names-of}
 use Rattle.rows.specs.declared.atom.AtomCodes.{AtomCodes}
 use Rattle.rows.specs.Coding.{CodedTerm, CodedAtom, Codes}
-use Rattle.rulerows.specs.Stored.{with-row, Kept}
-use Rattle.rulerows.specs.Facts.{names-of-fact, as-atom, StorableFact, StoresFact}
+use Rattle.rulerows.specs.Stored.{with-row}
+use Rattle.rulerows.specs.Facts.{as-atom, StorableFact, StoresFact}
 use Rattle.rulerows.proofs.Stored.{put-kept-of, put-part-of, part-of-part, number-of-part}
 use Rattle.rulerows.proofs.Shapes.{same-kind, is-variable}
 

@@ -1,3 +1,4 @@
+-- Laws that the proofs of callers cite: `Stored` of rows in a table, `RowParts` of what a row says. The others serve this crate.
 pub mod Literals
 pub mod Stored
 pub mod Numbers

@@ -1,7 +1,7 @@
 -- The 40 numbers of a rule: six, the equations' rows and the positive literals' rows, stored one behind the other.
 use mathlib.Core.Path.{_≡_, refl, sym, ap, _∙_}
 use mathlib.Core.Bool.{Bool, true, false, cond}
-use mathlib.Core.Option.{Option, none, some}
+use mathlib.Core.Option.{some}
 use mathlib.Core.List.{List, [], _∷_, map}
 use mathlib.Core.Logic.{inl, inr}
 use Prim.Native.Nat.{ℕ, zero, suc, _+_, _≤_, _<_, min}
@@ -9,7 +9,7 @@ use native.Mathlib.Omega.{arith}
 use lib.ListN.{length, getD, getElem?, take, drop}
 use lib.Seq.{take-take}
 use Rattle.meaning.specs.Sets.{In, any}
-use Rattle.meaning.specs.Rules.{Bytes, Literal, Rule}
+use Rattle.meaning.specs.Rules.{Bytes, Literal}
 use Rattle.meaning.specs.Values.{Value}
 use Rattle.meaning.specs.Safety.{Equation, equations}
 use Rattle.meaning.proofs.Booleans.{none-some}

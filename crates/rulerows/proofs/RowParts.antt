@@ -1,11 +1,10 @@
 -- A literal is what its row says: literals with the same row are the same.
 use mathlib.Core.Path.{_≡_, refl, sym, ap, ap₂, _∙_}
 use mathlib.Core.List.{List, [], _∷_, _++_, map}
-use Prim.Native.Nat.{ℕ, zero, suc, _+_, _*_, _%_, _≤_, _<_}
+use Prim.Native.Nat.{ℕ, zero, suc, _+_, _*_, _≤_, _<_}
 use native.Mathlib.Omega.{arith}
 use lib.ListN.{getD, take, drop}
-use Rattle.meaning.specs.Rules.{Literal}
-use Rattle.tables.specs.Rows.{from, term-of, arity, literal-column, atom-at, side-at, literal-at, equation-at}
+use Rattle.tables.specs.Rows.{from, arity, literal-column, atom-at, side-at, literal-at, equation-at}
 use Rattle.rulerows.specs.Stored.{row-at}
 use Rattle.rulerows.proofs.Stored.{part-of-part, number-of-part}
 

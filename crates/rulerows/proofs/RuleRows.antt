@@ -3,29 +3,28 @@ use mathlib.Core.Path.{_≡_, refl, sym, ap, ap₂, _∙_}
 use mathlib.Core.Bool.{Bool, true, false}
 use mathlib.Core.Logic.{inl, inr}
 use mathlib.Core.Option.{some}
-use mathlib.Core.List.{List, [], _∷_, map, map-map}
+use mathlib.Core.List.{List, [], _∷_, map}
 use Prim.Native.Nat.{ℕ, suc, _+_, _*_, _≤_, _<_, min}
 use native.Mathlib.Omega.{arith}
 use lib.Dec.{eqb}
-use lib.ListN.{length, getD, getElem?, take, drop, length-map}
-use borrow.Author.Tests.{eqb-true, eqb-false}
+use lib.ListN.{length, getElem?, take, length-map}
 use Rattle.meaning.specs.Sets.{In, any}
-use Rattle.meaning.specs.Rules.{Bytes, Atom, Term, Literal, positive, Rule}
+use Rattle.meaning.specs.Rules.{Bytes, Atom, Term, Literal, positive}
 use Rattle.meaning.specs.Values.{Value}
 use Rattle.meaning.specs.Safety.{positives, Equation, equations, safe}
-use Rattle.codes.specs.Codes.{no-value, Distinct, Coded}
+use Rattle.codes.specs.Codes.{Distinct, Coded}
 use Rattle.codes.specs.Predicates.{CodedName}
-use Rattle.codes.specs.Related.{Pairwise, end, pair, Perhaps, RelatedTerm, RelatedAtom, RelatedLiteral, RelatedRule}
+use Rattle.codes.specs.Related.{Pairwise, end, pair, RelatedLiteral, RelatedRule}
 use Rattle.codes.proofs.Scans.{RelatedEquation, related-equations}
-use Rattle.tables.specs.Rows.{from, literal-column, atom-at, side-at, literal-at, equation-at, no-literal, no-operation, rule-column, equation-places, positive-places, head-at, rule-at}
-use Rattle.tables.specs.WellFormed.{Inside, SideRow, BodyRow, EquationRow, has-operation, RuleRow}
+use Rattle.tables.specs.Rows.{from, literal-column, atom-at, side-at, literal-at, equation-at, no-operation, rule-column, rule-at}
+use Rattle.tables.specs.WellFormed.{Inside, SideRow, EquationRow, has-operation, RuleRow}
 use Rattle.rule.specs.declared.Literal as value-literal
 use Rattle.rule.specs.declared.Rule as value-rule
-use Rattle.safety.specs.Scanned.{meant, as-literal, Scanned}
+use Rattle.safety.specs.Scanned.{meant, as-literal}
 use Rattle.safety.proofs.Meant.{literal, LiteralIs, is-positive, is-negated, is-builtin, literal-is, body-is, body-length}
 use Rattle.rows.specs.Coding.{CodedLiteral}
 use Rattle.rulerows.specs.Stored.{row-at}
-use Rattle.rulerows.specs.Places.{positive-rows, computes, body-of, RuleNumbers}
+use Rattle.rulerows.specs.Places.{positive-rows, body-of, RuleNumbers}
 use Rattle.rulerows.specs.Rules.{HeadCoded, BodyCoded}
 use Rattle.rulerows.proofs.RowParts.{from-same, from-map, column-part, literal-part}
 use Rattle.rulerows.proofs.Shapes.{sort, same-sort, with-positive, sort-positive, Binds, binds, one-side, at-row, at-place}
@@ -118,9 +117,6 @@ positive-inside (x ∷ ls) k l m = go (eqb (x .sort) 0) refl (positive-inside ls
 -- ---- the whole row
 
 module _ (names : List Bytes) (table : Distinct names) (text : Bytes) (r : value-rule.Rule) (sixteen : length (r .body) ≡ 16) (rules literals : List ℕ) (number head first at : ℕ) (numbers : RuleNumbers r head first (number * 40) rules) (long : number * 40 + 40 ≤ length rules) (head-coded : HeadCoded names literals at head (meant text r .head)) (head-inside : Inside literals at) (body-coded : BodyCoded names literals first (meant text r .body)) (body-long : (first + 16) * 12 ≤ length literals) (is-safe : safe (meant text r) ≡ true) where
-  abbrev ms : List (Literal Value)
-  ms = meant text r .body
-
   count-is : rule-column rules number 2 ≡ length (meant text r .body)
   count-is = numbers .literals ∙ sym (body-length text r ∙ ap (λ (n : ℕ). min (r .count) n) sixteen)
 

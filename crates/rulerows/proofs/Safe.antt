@@ -1,14 +1,14 @@
 -- Related rules are safe together, and have an operation together: neither looks at a value.
 use mathlib.Core.Path.{_≡_, refl, ap, ap₂, _∙_, fun-ext}
-use mathlib.Core.Bool.{Bool, true, false, _&&_, _||_, not, cond}
-use mathlib.Core.Option.{Option, none, some}
+use mathlib.Core.Bool.{Bool, true, false, _&&_, _||_, not}
+use mathlib.Core.Option.{Option}
 use mathlib.Core.List.{List, [], _∷_, map}
 use Prim.Native.Nat.{ℕ}
-use lib.Dec.{eqb, ltb}
-use Rattle.meaning.specs.Sets.{every, any}
+use lib.Dec.{eqb}
+use Rattle.meaning.specs.Sets.{any}
 use Rattle.meaning.specs.Domain.{Comparison}
 use Rattle.meaning.specs.Values.{Value}
-use Rattle.meaning.specs.Rules.{Bytes, Term, Atom, Side, plain, computed, Literal, positive, negated, builtin, Rule}
+use Rattle.meaning.specs.Rules.{Bytes, Term, Atom, Literal, builtin, Rule}
 use Rattle.meaning.specs.Safety.{in-term, in-atom, in-positives, term-bound, side-bound, atom-bound, literal-bound, head-bound, Equation, equations, with, bound-after, bound, safe}
 use Rattle.codes.specs.Related.{Pairwise, end, pair, Perhaps, neither, both, RelatedTerm, both-constant, both-variable, RelatedAtom, RelatedSide, both-plain, both-computed, RelatedLiteral, both-positive, both-negated, both-builtin, RelatedRule}
 use Rattle.codes.proofs.Pairwise.{Agree, same-any, same-every}

@@ -1,13 +1,13 @@
 -- What a row's literal is by what it is related to: its sort, its left variable, its right side.
-use mathlib.Core.Path.{_≡_, refl, sym, ap, ap₂, _∙_}
-use mathlib.Core.Bool.{Bool, true, false, cond}
+use mathlib.Core.Path.{_≡_, refl, ap, ap₂}
+use mathlib.Core.Bool.{Bool, true, false}
 use mathlib.Core.Option.{some}
-use mathlib.Core.List.{List, [], _∷_}
+use mathlib.Core.List.{List, _∷_}
 use Prim.Native.Nat.{ℕ, zero, suc, _+_, _≤_, _<_}
 use native.Mathlib.Omega.{arith}
 use lib.Dec.{eqb, ltb}
 use lib.ListN.{getElem?}
-use borrow.Author.Tests.{eqb-true, eqb-false, ltb-true, ltb-false}
+use borrow.Author.Tests.{eqb-true, eqb-false, ltb-true}
 use Rattle.meaning.specs.Domain.{equal}
 use Rattle.meaning.specs.Rules.{Bytes, Term, constant, variable, Side, plain, computed, Literal, positive, negated, builtin}
 use Rattle.meaning.specs.Values.{Value}
@@ -16,7 +16,7 @@ use Rattle.meaning.proofs.Booleans.{none-some, some-inj}
 use Rattle.codes.specs.Codes.{Distinct, Coded}
 use Rattle.codes.specs.Related.{Pairwise, end, pair, RelatedTerm, both-constant, both-variable, RelatedSide, both-plain, both-computed, RelatedLiteral, both-positive, both-negated, both-builtin}
 use Rattle.codes.proofs.Coded.{one-code}
-use Rattle.tables.specs.Rows.{from, term-of, literal-column, atom-at, side-at, literal-at, equation-at}
+use Rattle.tables.specs.Rows.{from, term-of, literal-column, atom-at, side-at, literal-at}
 
 -- ---- the sorts of literals and of terms, as numbers
 
@@ -55,10 +55,6 @@ built-in-parts (both-builtin k t e) = (t, e)
 -- ---- the literal of a row
 
 module _ (literals : List ℕ) (l : ℕ) where
-  positive-row : literal-column literals l 0 ≡ 0 → literal-at literals l ≡ positive (atom-at literals l)
-  unfolding literal-at
-  positive-row e = rw e
-
   pub sort-positive : sort (literal-at literals l) ≡ 0 → literal-at literals l ≡ positive (atom-at literals l)
   unfolding literal-at sort
   sort-positive h = go (eqb (literal-column literals l 0) 0) refl (eqb (literal-column literals l 0) 1) refl

@@ -4,7 +4,7 @@ use mathlib.Core.List.{List, [], _∷_, _++_, append-assoc}
 use Prim.Native.Nat.{ℕ, zero, suc, _+_, _-_, _≤_, _<_}
 use native.Mathlib.Omega.{arith}
 use lib.ListN.{length, getD, take, drop}
-use lib.Seq.{paste, length-paste, take-paste, drop-paste, take-at, drop-at, take-length, take-take, length-take-le, getD-take, getD-drop, drop-drop}
+use lib.Seq.{length-paste, take-paste, drop-paste, take-at, drop-at, take-length, take-take, length-take-le, getD-take, getD-drop, drop-drop}
 use Rattle.rulerows.specs.Stored.{with-row, Kept}
 
 -- ---- parts of a table
@@ -74,9 +74,3 @@ module _ {a b : ℕ} {t u : List ℕ} (k : Kept a b t u) where
   -- a part before the changed numbers
   pub kept-part : (n at : ℕ) → at + n ≤ a → take n (drop at u) ≡ take n (drop at t)
   kept-part n at h = sym (inner a at n u h) ∙ ap (λ (l : List ℕ). take n (drop at l)) (k .before) ∙ inner a at n t h
-
-  -- and behind them
-  pub kept-part-behind : (n at : ℕ) → b ≤ at → take n (drop at u) ≡ take n (drop at t)
-  kept-part-behind n at h =
-      let e : b + (at - b) ≡ at = omega arith in
-      rw (← e, ← (drop-drop (at - b) b u), ← (drop-drop (at - b) b t), k .behind)

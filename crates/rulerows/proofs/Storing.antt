@@ -1,30 +1,30 @@
 -- Storing a rule: its head's row, its body's rows and its own, and the tables as far as they are filled.
 use mathlib.Core.Path.{_≡_, refl, sym, ap, _∙_}
-use mathlib.Core.Bool.{Bool, true, false, _&&_}
-use mathlib.Core.Option.{Option, none, some}
+use mathlib.Core.Bool.{Bool, true, false}
+use mathlib.Core.Option.{Option, some}
 use mathlib.Core.List.{List, [], _∷_}
 use Prim.Native.Nat.{ℕ, _+_, _*_, _≤_, _<_}
 use native.Mathlib.Omega.{arith}
 use lib.Dec.{eqb, ltb}
-use lib.ListN.{length, getD, take, drop}
+use lib.ListN.{length, getD, take}
 use lib.Seq.{getD-take, length-take-le}
-use borrow.Author.Tests.{eqb-true, eqb-false, lt-ltb}
+use borrow.Author.Tests.{eqb-false, lt-ltb}
 use Rattle.lexis.specs.declared.Place.{Place}
 use Rattle.meaning.specs.Sets.{every}
-use Rattle.meaning.specs.Rules.{Bytes, Term, constant, variable, Atom, Side, plain, computed, Literal, positive, negated, builtin, Rule}
+use Rattle.meaning.specs.Rules.{Bytes, Term, constant, variable, Atom, Side, plain, computed, Literal, positive, negated, builtin}
 use Rattle.meaning.specs.Values.{Value, number, name}
 use Rattle.meaning.specs.Safety.{term-bound, side-bound, atom-bound, literal-bound}
 use Rattle.meaning.proofs.Booleans.{and-both}
 use Rattle.codes.specs.Codes.{Coded}
 use Rattle.codes.specs.Predicates.{CodedName}
 use Rattle.codes.specs.Related.{Perhaps, neither, both, RelatedTerm, RelatedAtom}
-use Rattle.tables.specs.Rows.{from, no-literal, atom-at, head-at}
+use Rattle.tables.specs.Rows.{no-literal, atom-at, head-at}
 use Rattle.rule.specs.declared.Rule as value-rule
 use Rattle.safety.specs.Scanned.{meant, Numbered}
 use Rattle.safety.proofs.Meant.{body-length, numbered-by-one-text}
 use Rattle.names.specs.Texts.{bytes-at}
 use Rattle.names.specs.Table.{names-of}
-use Rattle.rows.specs.Codable.{Every, CodableTerm, CodableAtom, CodableSide, CodableLiteral}
+use Rattle.rows.specs.Codable.{Every, CodableTerm, CodableSide, CodableLiteral}
 use Rattle.rows.specs.Growth.{Room, Grows}
 use Rattle.rows.specs.Coding.{Codes}
 use Rattle.rows.proofs.Growth.{grows-then, room-after, room-less, keeps-atom}

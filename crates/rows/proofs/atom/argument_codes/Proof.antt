@@ -1,7 +1,7 @@
 -- `atom::argument_codes` meets its contract. The invariant: the numbers so far stand for the arguments so far.
 -- The measure is what is left of them. Assumes nothing.
 use mathlib.Core.Path.{_≡_, refl}
-use Prim.Native.Nat.{_≤_, _-_, min}
+use Prim.Native.Nat.{_≤_, _-_}
 use native.Mathlib.Omega.{arith}
 use lib.ListN.{length}
 use Rattle.safety.proofs.Firsts.{array-length}

@@ -1,5 +1,4 @@
 -- `literal::built_in` meets its contract, with an operation and without one. Assumes nothing.
-use native.Mathlib.Omega.{arith}
 use Rattle.rows.proofs.Literals.{left-codable, right-codable, operand-codable}
 use Rattle.rows.proofs.BuiltIns.{room-first, room-second, room-third, compared-coded, computed-coded}
 use borrow.Author.Needs.{needs}

@@ -1,5 +1,4 @@
 -- `term::name_number` meets its contract: the place, counted on into the two texts, has the name's bytes. Assumes nothing.
-use mathlib.Core.Path.{refl}
 use native.Mathlib.Omega.{arith}
 use Rattle.rows.proofs.Sources.{source-fits, interned-at, turned-away}
 use borrow.Author.Needs.{needs}

@@ -1,8 +1,5 @@
 -- `term::number_code` meets its contract: a number and its code differ by a constant. Assumes nothing.
-use mathlib.Core.Path.{sym, ap, _∙_}
 use native.Mathlib.Omega.{arith}
-use Rattle.codes.specs.Codes.{number-code}
-use Rattle.rule.specs.Stands.{signed}
 use Rattle.rows.proofs.Terms.{signed-small, behind-minus, with-no-minus}
 use Rattle.rows.proofs.term.number_code.Statement.{statement}
 use Rattle.rows.proofs.term.number_code.Tie as tie

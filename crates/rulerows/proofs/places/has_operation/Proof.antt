@@ -1,7 +1,7 @@
 -- `places::has_operation` meets its contract. The invariant: what some literal has, some literal from here on has.
 -- The measure is what is left of the body. Assumes nothing.
 use mathlib.Core.Path.{_≡_, refl}
-use Prim.Native.Nat.{_≤_, _<_, _-_, min}
+use Prim.Native.Nat.{_-_}
 use native.Mathlib.Omega.{arith}
 use lib.ListN.{length, drop}
 use Rattle.meaning.specs.Sets.{any}
