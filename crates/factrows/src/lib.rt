@@ -9,7 +9,7 @@ use lexis::Place;
 use names::text::bytes_at;
 use rulerows::fact::put_fact;
 use syntax::program::MOST_FACTS;
-use syntax::program::rule_at;
+use syntax::start::start_at;
 
 // The facts of a line of the output, each in its row, with the predicates' numbers in a table of their own: how many facts there are.
 pub fn fill_facts<'a>(
@@ -30,13 +30,12 @@ pub fn fill_facts<'a>(
     let mut at = 0;
     let mut count = 0;
     loop {
-        let read = rule_at(text, at, true, MOST_FACTS <= count);
+        let read = start_at(text, at, true, MOST_FACTS <= count);
         if read.ended {
             return count;
         }
         let progress = read.progress;
-        let rule = read.rule;
-        let head = rule.head;
+        let head = read.head;
         predicates[count] = put_fact(program, output, names, source, facts, count, head);
         at = progress.next;
         count += 1;

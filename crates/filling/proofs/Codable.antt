@@ -1,9 +1,9 @@
 -- The rules of a program whose tokens fit have numbers.
-use mathlib.Core.Path.{_≡_, refl, ap, _∙_}
-use mathlib.Core.Bool.{Bool, true, false, _&&_}
-use mathlib.Core.Option.{Option, none, some}
+use mathlib.Core.Path.{_≡_, refl}
+use mathlib.Core.Bool.{Bool, true, false}
+use mathlib.Core.Option.{none, some}
 use mathlib.Core.List.{List, [], _∷_, _++_, append-assoc}
-use Prim.Native.Nat.{ℕ, zero, suc, _≤_, _<_}
+use Prim.Native.Nat.{ℕ, zero, suc, _≤_}
 use native.Mathlib.Omega.{arith}
 use lib.ListN.{length}
 use lib.IntN.{pos, negℤ}
@@ -11,14 +11,14 @@ use borrow.Author.Tests.{ltb-true, ltb-false, le-leb}
 use Rattle.reading.specs.Reading.{_▹_, tokens}
 use Rattle.reading.proofs.Lists.{tokens-append}
 use Rattle.meaning.specs.Sets.{every}
-use Rattle.meaning.specs.Rules.{Bytes, Term as MeantTerm, constant, variable, Atom as MeantAtom, Literal as MeantLiteral}
+use Rattle.meaning.specs.Rules.{Bytes, Term as MeantTerm, constant, variable}
 use Rattle.meaning.specs.Values.{Value, number, name, in-range}
 use Rattle.meaning.specs.Safety.{term-bound, side-bound, atom-bound, literal-bound, head-bound, safe}
 use Rattle.meaning.proofs.Booleans.{and-left, and-right, and-both}
 use Rattle.grammar.specs.Tokens.{:-, dot, Token}
 use Rattle.grammar.specs.Trees.{Sequence, empty, _then_, count, Term, negative, anonymous, Arguments, bare, parentheses, arguments, Atom, atom, Literal, positive, negated, compared, computed, Rule, fact, clause, Program}
 use Rattle.grammar.specs.Trees as trees
-use Rattle.grammar.specs.Spelling.{Mark, inside, rule, Spelling, mere, with-commas, spell-term, spell-argument, spell-arguments, spell-signed, spell-atom, spell-compared, spell-operation, spell-literal, spell-nth-literal, spell-head, spell-rule, spell}
+use Rattle.grammar.specs.Spelling.{Mark, inside, rule, Spelling, mere, with-commas, spell-term, spell-argument, spell-arguments, spell-signed, spell-atom, spell-compared, spell-literal, spell-nth-literal, spell-head, spell-rule, spell}
 use Rattle.grammar.specs.Sizes.{too-big}
 use Rattle.grammar.specs.Variables.{Variables, met}
 use Rattle.grammar.specs.Abstraction.{term-for, terms-for, arguments-for, atom-for, literal-for, literals-for, rule-for, rules-for}
@@ -26,7 +26,7 @@ use Rattle.grammar.proofs.Plainer.{All}
 use Rattle.syntax.specs.Written.{rule-variables}
 use Rattle.syntax.proofs.Numbered.{below, rule-below}
 use Rattle.plainform.proofs.Prefixes.{Prefix, same, more}
-use Rattle.rows.specs.Codable.{Every, CodableTerm, CodableAtom, CodableSide, CodableLiteral, CodableHead, CodableRule}
+use Rattle.rows.specs.Codable.{Every, CodableTerm, CodableAtom, CodableLiteral, CodableRule}
 use Rattle.filling.proofs.Fit.{Fit}
 
 -- ---- parts of a spelling

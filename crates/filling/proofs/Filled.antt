@@ -1,28 +1,26 @@
 -- The loop over the rules of a program: the rows so far stand for the rules so far.
 use mathlib.Core.Path.{_≡_, refl, sym, ap, _∙_}
 use mathlib.Core.Bool.{Bool, true, false}
-use mathlib.Core.List.{List, [], _∷_, _++_}
-use Prim.Native.Nat.{ℕ, zero, suc, _+_, _-_, _*_, _≤_, _<_}
+use mathlib.Core.List.{List, [], _∷_}
+use Prim.Native.Nat.{ℕ, suc, _+_, _-_, _*_, _≤_, _<_}
 use native.Mathlib.Omega.{arith}
 use native.Mathlib.Numerals.{add-one}
 use lib.Dec.{leb, ltb}
-use lib.ListN.{length, take, drop}
-use lib.Seq.{take-length, take-take, length-take-le}
-use borrow.Author.Tests.{ltb-true, ltb-false, lt-ltb, le-ltb}
+use lib.ListN.{length, take}
+use lib.Seq.{take-length, length-take-le}
+use borrow.Author.Tests.{ltb-true, ltb-false, lt-ltb}
 use Rattle.lexis.specs.Tokens.{part}
 use Rattle.reading.specs.Reading.{_▹_, tree}
 use Rattle.meaning.specs.Sets.{every}
 use Rattle.meaning.specs.Rules.{Bytes, Rule}
-use Rattle.meaning.specs.Values.{Value}
 use Rattle.meaning.specs.Safety.{safe}
-use Rattle.grammar.specs.Trees.{empty, _then_, count, Program}
+use Rattle.grammar.specs.Trees.{_then_, count, Program}
 use Rattle.grammar.specs.Abstraction.{rule-for, rules-for}
 use Rattle.rule.specs.declared.Rule as value-rule
 use Rattle.rule.specs.Plain.{meant-rule}
-use Rattle.rule.specs.Stands.{rule-of}
 use Rattle.safety.specs.Scanned.{meant}
 use Rattle.syntax.specs.declared.body.RuleRead.{RuleRead}
-use Rattle.syntax.specs.Written.{rule-variables, plain-rule}
+use Rattle.syntax.specs.Written.{rule-variables}
 use Rattle.syntax.specs.Rules.{Holds, ReadsRule}
 use Rattle.syntax.specs.Programs.{ReadAs}
 use Rattle.syntax.proofs.Written.{rule-meant}
@@ -31,14 +29,13 @@ use Rattle.codes.specs.Codes.{Coded}
 use Rattle.codes.specs.Predicates.{CodedName}
 use Rattle.codes.specs.Related.{Pairwise, end, pair, RelatedRule}
 use Rattle.codes.proofs.Pairwise.{pairwise-append}
-use Rattle.tables.specs.Rows.{from, rule-at, rules-of}
-use Rattle.tables.specs.WellFormed.{Inside, RuleRow, RuleTable}
+use Rattle.tables.specs.Rows.{from, rule-at}
+use Rattle.tables.specs.WellFormed.{RuleRow}
 use Rattle.names.specs.Texts.{place-at, bytes-at}
 use Rattle.names.specs.Table.{names-of}
-use Rattle.rows.specs.Codable.{CodableRule}
-use Rattle.rows.specs.Growth.{Room, Grows}
+use Rattle.rows.specs.Growth.{Grows}
 use Rattle.rows.proofs.Growth.{grows-none, grows-then, room-after, keeps-rules}
-use Rattle.rulerows.specs.Stored.{Kept, row-at}
+use Rattle.rulerows.specs.Stored.{Kept}
 use Rattle.rulerows.specs.Rules.{names-of-rule, Storable, Stores}
 use Rattle.rulerows.proofs.Stored.{inner, kept-self, kept-then, kept-wider, kept-part}
 use Rattle.rulerows.proofs.RowParts.{from-suc, from-same}

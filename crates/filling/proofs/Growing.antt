@@ -1,5 +1,5 @@
 -- A rule's row stays what it is as the tables grow behind it.
-use mathlib.Core.Path.{_≡_, refl, sym, ap, ap₂, subst, _∙_}
+use mathlib.Core.Path.{_≡_, refl, sym, ap, ap₂, _∙_}
 use mathlib.Core.Bool.{Bool, true, false}
 use mathlib.Core.Logic.{inl, inr}
 use mathlib.Core.Option.{some}
@@ -9,11 +9,9 @@ use native.Mathlib.Omega.{arith}
 use lib.Dec.{eqb}
 use lib.ListN.{length, getD, take, drop}
 use borrow.Author.Tests.{eqb-false}
-use Rattle.meaning.specs.Sets.{In, any}
-use Rattle.meaning.specs.Rules.{Rule}
-use Rattle.meaning.specs.Safety.{equations, positives, safe}
+use Rattle.meaning.specs.Sets.{In}
 use Rattle.tables.specs.Rows.{from, literal-column, atom-at, literal-at, equation-at, no-literal, rule-column, equation-places, positive-places, head-at, rule-at}
-use Rattle.tables.specs.WellFormed.{Inside, SideRow, BodyRow, EquationRow, has-operation, RuleRow}
+use Rattle.tables.specs.WellFormed.{Inside, SideRow, RuleRow}
 use Rattle.rulerows.specs.Stored.{row-at}
 use Rattle.rulerows.proofs.Stored.{part-of-part, number-of-part}
 use Rattle.rulerows.proofs.RowParts.{from-same, column-part, atom-part, literal-part, equation-part}

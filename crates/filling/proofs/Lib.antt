@@ -3,3 +3,4 @@ pub mod Codable
 pub mod Walked
 pub mod Growing
 pub mod Filled
+pub mod Started

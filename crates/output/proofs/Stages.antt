@@ -10,8 +10,6 @@ use Rattle.lexis.specs.Tokens.{part}
 use Rattle.meaning.specs.Rules.{Bytes}
 use Rattle.grammar.specs.Trees.{count}
 use Rattle.rule.specs.Build.{noPlace}
-use Rattle.syntax.specs.declared.program.RulesRead.{RulesRead}
-use Rattle.syntax.specs.Programs.{ReadsRules, whole, refuses}
 use Rattle.sentences.proofs.Inside.{refused-inside}
 use Rattle.report.specs.declared.Report.{Report as ReportRead}
 use Rattle.report.specs.declared.word.Word.{Word}
@@ -24,8 +22,9 @@ use Rattle.report.proofs.Inside.{reported-inside}
 use Rattle.stages.specs.Parts.{output, in-text, start-of}
 use Rattle.stages.specs.Stage.{on, stop, stops, goes, given, passed, read, fault}
 use Rattle.output.specs.declared.OutputRead.{OutputRead}
+use Rattle.output.specs.declared.facts.FactsRead.{FactsRead}
 use Rattle.output.specs.Output.{Report, facts, most-bytes, Opened, Opening, opens, on-line, Closing, Behind}
-use Rattle.output.specs.Answers.{refused as refused-fields, reported as reported-fields, report-fields, GivenBy, ReadsOutput, ReadsFacts, Closes}
+use Rattle.output.specs.Answers.{refused as refused-fields, reported as reported-fields, report-fields, GivenBy, ReadsOutput, ReadsLine, ReadsFacts, Closes}
 
 -- ---- the facts line
 
@@ -42,29 +41,29 @@ module _ (text : Bytes) (line : Place) (inside : line .start + line .len ≤ len
   line-length : length bytes ≡ line .len
   line-length = rw bytes-part (simp (length-take, length-drop) (omega arith))
 
-  module _ (r : RulesRead) (g : ReadsRules true bytes r) where
+  module _ (r : FactsRead) (g : ReadsLine bytes r) where
     pub facts-whole : r .code ≡ 0 → ReadsFacts text line r
     facts-whole e = go g
       where
-        go : ReadsRules true bytes r → ReadsFacts text line r
-        go (whole c p fs n k h) = ReadsFacts.whole c fs n (read fs (rw bytes-part at h))
-        go (refuses c n h) = absurd (omega arith)
+        go : ReadsLine bytes r → ReadsFacts text line r
+        go (ReadsLine.whole c fs n h) = ReadsFacts.whole c fs n (read fs (rw bytes-part at h))
+        go (ReadsLine.refuses c h) = absurd (omega arith)
 
     module _ (e : r .code ≡ 0 → ⊥) where
       -- the fault lies on the line, and so in the output
       pub fault-inside : line .start + r .place .start + r .place .len ≤ length text
       fault-inside = go g
         where
-          go : ReadsRules true bytes r → line .start + r .place .start + r .place .len ≤ length text
-          go (whole c p fs n k h) = absurd (e c)
-          go (refuses c n h) = omega (arith, refused-inside true bytes (r .code) (r .place) h, line-length)
+          go : ReadsLine bytes r → line .start + r .place .start + r .place .len ≤ length text
+          go (ReadsLine.whole c fs n h) = absurd (e c)
+          go (ReadsLine.refuses c h) = omega (arith, refused-inside true bytes (r .code) (r .place) h, line-length)
 
       pub facts-refused : ReadsFacts text line (record { code = r .code; place = on-line line (r .place); count = 0 })
       facts-refused = go g
         where
-          go : ReadsRules true bytes r → ReadsFacts text line (record { code = r .code; place = on-line line (r .place); count = 0 })
-          go (whole c p fs n k h) = absurd (e c)
-          go (refuses c n h) = ReadsFacts.refuses c (fault (r .code) (r .place) (rw bytes-part at h))
+          go : ReadsLine bytes r → ReadsFacts text line (record { code = r .code; place = on-line line (r .place); count = 0 })
+          go (ReadsLine.whole c fs n h) = absurd (e c)
+          go (ReadsLine.refuses c h) = ReadsFacts.refuses c (fault (r .code) (r .place) (rw bytes-part at h))
 
 -- ---- the lines behind the report
 
@@ -82,7 +81,7 @@ module _ (text : Bytes) (at : ℕ) (before : OutputRead) (x : Report) (e : befor
 
 -- ---- behind ANSWER
 
-module _ (text : Bytes) (line : Place) (next : ℕ) (f : RulesRead) (g : ReadsFacts text line f) where
+module _ (text : Bytes) (line : Place) (next : ℕ) (f : FactsRead) (g : ReadsFacts text line f) where
   pub answer-refused : (f .code ≡ 0 → ⊥) → (r : OutputRead) → r ≡ refused-fields (f .code) (f .place) → GivenBy (Behind text Answer line next) r
   answer-refused e r q = go g
     where

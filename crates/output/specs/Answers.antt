@@ -3,10 +3,11 @@ use mathlib.Core.Path.{_≡_}
 use mathlib.Core.Bool.{true}
 use Prim.Native.Nat.{ℕ, _≤_}
 use Rattle.lexis.specs.declared.Place.{Place}
+use Rattle.reading.specs.Reading.{tree, refused as refusal}
 use Rattle.meaning.specs.Rules.{Bytes}
 use Rattle.grammar.specs.Trees.{count, Program}
 use Rattle.rule.specs.Build.{noPlace}
-use Rattle.syntax.specs.declared.program.RulesRead.{RulesRead}
+use Rattle.syntax.specs.Programs.{ReadAs}
 use Rattle.report.specs.declared.word.Word.{Word}
 use Rattle.report.specs.declared.word.Word.the-variants.{Answer, Inconsistent, Unknown}
 use Rattle.report.specs.declared.around.Found.the-variants.{Nothing, Line}
@@ -14,6 +15,7 @@ use Rattle.report.specs.Around.{OutOfPlace}
 use Rattle.stages.specs.Parts.{output, in-text}
 use Rattle.stages.specs.Stage.{Outcome, on, stop, Stage}
 use Rattle.output.specs.declared.OutputRead.{OutputRead}
+use Rattle.output.specs.declared.facts.FactsRead.{FactsRead}
 use Rattle.output.specs.Output.{Report, facts, claim-none, claim-unknown, Facts, OutputStage}
 
 -- ---- fields that an answer does not name are zero, or the word that claims nothing
@@ -45,8 +47,13 @@ ReadsOutput text r = GivenBy (OutputStage text) r
 
 -- ---- its parts
 
+-- a facts line by itself: some facts, which are so many; or a refusal at its place on the line
+pub data ReadsLine (text : Bytes) (r : FactsRead) : Type 0 where
+  whole : r .code ≡ 0 → (fs : Program true) → count fs ≡ r .count → ReadAs true text (tree fs) → ReadsLine text r
+  refuses : 2 ≤ r .code → ReadAs true text (refusal (r .code) (r .place)) → ReadsLine text r
+
 -- the facts line of an output: the number of its facts, or a refusal at its place in the output
-pub data ReadsFacts (text : Bytes) (line : Place) (r : RulesRead) : Type 0 where
+pub data ReadsFacts (text : Bytes) (line : Place) (r : FactsRead) : Type 0 where
   whole : r .code ≡ 0 → (fs : Program true) → count fs ≡ r .count → Facts text line (on fs) → ReadsFacts text line r
   refuses : 2 ≤ r .code → Facts text line (stop (r .code) (in-text output (r .place))) → ReadsFacts text line r
 

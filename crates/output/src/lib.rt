@@ -5,14 +5,15 @@ ghost use lib.ListN.{length};
 ghost use Rattle.report.specs.declared.word.Word.the-variants.{Answer};
 ghost use Rattle.output.specs.Output.{Behind};
 ghost use Rattle.output.specs.Answers.{refused, reported, GivenBy, ReadsOutput, ReadsFacts, Closes};
+use facts::FactsRead;
+use facts::read_line;
 use lexis::Place;
 use report::around::Found;
 use report::around::out_of_place;
 use report::find_report;
 use report::word::Word;
-use syntax::program::RulesRead;
-use syntax::program::read_rules;
 
+pub mod facts;
 pub mod places;
 
 // The most bytes of an output.
@@ -61,18 +62,18 @@ fn reported(word: Word, line: Place, count: usize) -> OutputRead
 }
 
 // The facts of the facts line: their number; or the refusal, with its place in the output.
-fn read_facts(output: &[u8], line: Place) -> RulesRead
+fn read_facts(output: &[u8], line: Place) -> FactsRead
     requires { ⌜ line .start + line .len ≤ length (now output) ⌝ }
     ensures { λ r. ⌜ ReadsFacts (now (output .entry)) line r ⌝ }
 {
     let start = line.start;
     let end = start + line.len;
-    let read = read_rules(&output[start..end], true);
+    let read = read_line(&output[start..end]);
     if read.code == 0 {
         return read;
     }
     let place = read.place;
-    RulesRead {
+    FactsRead {
         code: read.code,
         place: Place {
             start: start + place.start,

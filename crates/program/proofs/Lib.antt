@@ -1,5 +1,6 @@
 pub mod Segments
 pub mod Remembered
+pub mod Looked
 pub mod Loop
 pub mod Unique
 pub mod Taken

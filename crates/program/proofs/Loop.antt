@@ -24,20 +24,18 @@ use Rattle.rule.specs.Build.{noPlace}
 use Rattle.syntax.specs.declared.body.RuleRead.{RuleRead}
 use Rattle.syntax.specs.Text.{placed-from, end-of}
 use Rattle.syntax.specs.Ahead.{firsts}
-use Rattle.syntax.specs.Rules.{behind-rules, RulePlace, Holds, ReadsRule, read, ended, stopped}
+use Rattle.syntax.specs.Rules.{behind-rules, places-of, RulePlace, Holds, ReadsRule, read, ended, stopped}
 use Rattle.syntax.proofs.Lists.{too-many-next}
 use Rattle.syntax.proofs.Programs.{reading-of}
 use Rattle.syntax.proofs.Written.{rule-meant}
-use Rattle.syntax.proofs.Numbered.{numbered}
 use Rattle.safety.specs.declared.Unbound.{Unbound as Found}
-use Rattle.safety.specs.Scanned.{meant, Numbered}
+use Rattle.safety.specs.Scanned.{meant}
 use Rattle.safety.specs.Unbound.{FirstUnbound}
 use Rattle.stages.specs.Parts.{program, in-text, start-of}
 use Rattle.stages.specs.Stage.{on, stop, stops, goes, given, passed, first, without, Reads}
 use Rattle.program.specs.Unbound.{Tokens, dots, met-behind, Unbound}
 use Rattle.program.specs.Stage.{most-text, tokens-of, token-part}
 use Rattle.program.specs.Answer.{refusal, readRules, fields, ReadsProgram}
-use Rattle.program.specs.Parts.{Earlier, kept, looked}
 use Rattle.program.proofs.Segments.{to-dot, Cut, cut}
 use Rattle.program.proofs.Remembered.{dots-append, Remembered, first-case, no-case, remembered-start, remember-on, none-behind}
 
@@ -141,12 +139,9 @@ module _ (text : Bytes) (fits : length text ≤ most-text) (u : Found) (at n : �
     pub room : n < 256
     room = next .room
 
-    pub its-numbers : Numbered (r .rule)
-    its-numbers text′ = numbered false text at (next .tree-of) (r .progress .next) (r .rule) (next .holds) text′
-
-    pub goes-on : (v : Found) → Earlier u (r .rule) v → Going text v (r .progress .next) (n + 1)
+    pub goes-on : (w : Found) → ((text : Bytes) → FirstUnbound (bound (meant text (r .rule))) (places-of (r .rule .variables)) w) → (v : Found) → v ≡ cond (u .found) u w → Going text v (r .progress .next) (n + 1)
     unfolding count rules-for
-    goes-on v ev =
+    goes-on w fw v ev =
         record {
           few = omega (arith, room);
           rules = g .rules then x;
@@ -169,12 +164,10 @@ module _ (text : Bytes) (fits : length text ≤ most-text) (u : Found) (at n : �
         same = ap meant-rule (inv (next .holds .plain)) ∙ rule-meant x
 
         over : (more : List (Rule Value)) → Remembered (rules-for (g .rules) ++ rule-for x ∷ more) (tokens-of text) (end-of text) (length (g .before) + length (to-dot (placed-from false text at))) v
-        over more = rw (g .whole) at (remember-on (rules-for (g .rules)) more (rule-for x) (g .before) (placed-from false text at) (g .new) (g .ended) (end-of text) u v (rw (← (g .whole)) at (g .remembered (rule-for x ∷ more))) (kept-of ev) (looked-of ev))
+        over more = rw (g .whole) at (remember-on (rules-for (g .rules)) more (rule-for x) (g .before) (placed-from false text at) (g .new) (g .ended) (end-of text) u v (rw (← (g .whole)) at (g .remembered (rule-for x ∷ more))) kept looked)
           where
-            kept-of : Earlier u (r .rule) v → u .found ≡ true → v ≡ u
-            kept-of (kept h q) t = q
-            kept-of (looked h q) t = absurd (false≢true (inv h ∙ t))
+            kept : u .found ≡ true → v ≡ u
+            kept t = ev ∙ ap (λ b. cond b u w) t
 
-            looked-of : Earlier u (r .rule) v → u .found ≡ false → FirstUnbound (bound (rule-for x)) (firsts [] (placed-from false text at)) v
-            looked-of (kept h q) t = absurd (true≢false (inv h ∙ t))
-            looked-of (looked h q) t = rw (← same, next .holds .firsts) (q text)
+            looked : u .found ≡ false → FirstUnbound (bound (rule-for x)) (firsts [] (placed-from false text at)) v
+            looked t = let q : v ≡ w = ev ∙ ap (λ b. cond b u w) t in rw (q, ← same, next .holds .firsts) (fw text)

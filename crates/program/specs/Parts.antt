@@ -1,15 +1,17 @@
--- What the parts of `read_program` answer.
+-- What a look at one rule answers.
 use mathlib.Core.Path.{_≡_}
-use mathlib.Core.Bool.{true, false}
+use mathlib.Core.Bool.{Bool, false}
+use Prim.Native.Nat.{ℕ}
 use Rattle.meaning.specs.Rules.{Bytes}
 use Rattle.meaning.specs.Safety.{bound}
 use Rattle.rule.specs.declared.Rule as value
-use Rattle.syntax.specs.Rules.{places-of}
-use Rattle.safety.specs.declared.Unbound.{Unbound}
+use Rattle.syntax.specs.Rules.{places-of, ReadsRule}
 use Rattle.safety.specs.Scanned.{meant}
 use Rattle.safety.specs.Unbound.{FirstUnbound}
+use Rattle.program.specs.declared.look.Looked.{Looked}
 
--- the variable that was found before; or else the first of this rule
-pub data Earlier (u : Unbound) (rule : value.Rule) (r : Unbound) : Type 0 where
-  kept : u .found ≡ true → r ≡ u → Earlier u rule r
-  looked : u .found ≡ false → ((text : Bytes) → FirstUnbound (bound (meant text rule)) (places-of (rule .variables)) r) → Earlier u rule r
+-- some rule by value has been read so far, and where one was read, its first unbound variable is this
+pub record Looks (over : Bool) (text : Bytes) (at : ℕ) (l : Looked) : Type 0 where
+  pub rule : value.Rule
+  pub reads : ReadsRule false over text at (record { progress = l .progress; ended = l .ended; rule = rule })
+  pub unbound : l .progress .code ≡ 0 → l .ended ≡ false → (text : Bytes) → FirstUnbound (bound (meant text rule)) (places-of (rule .variables)) (l .unbound)

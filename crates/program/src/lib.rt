@@ -1,15 +1,13 @@
 // A program's text, read once: the number of its rules, or the refusal and its place.
 ghost use mathlib.Core.Path.{_≡_};
 ghost use mathlib.Core.Bool.{cond};
-ghost use Rattle.safety.specs.Scanned.{Numbered};
 ghost use Rattle.program.specs.Answer.{refusal, readRules, ReadsProgram};
-ghost use Rattle.program.specs.Parts.{Earlier};
 use lexis::Place;
-use rule::Rule;
+use look::look_at;
 use safety::Unbound;
-use safety::first_unbound;
 use syntax::program::MOST_RULES;
-use syntax::program::rule_at;
+
+mod look;
 
 // The most bytes of a program's text.
 pub const MOST_TEXT: usize = 65536;
@@ -38,11 +36,9 @@ fn refused(code: u8, place: Place) -> ProgramRead
 }
 
 // What is found first stays: the first unbound variable of a later rule stands behind it.
-fn earlier(before: Unbound, rule: Rule) -> Unbound
-    requires { ⌜ Numbered rule ⌝ }
-    ensures { λ r. ⌜ Earlier before rule r ⌝ }
+fn earlier(before: Unbound, here: Unbound) -> Unbound
+    ensures { λ r. ⌜ r ≡ cond (before .found) before here ⌝ }
 {
-    let here = first_unbound(rule);
     if before.found {
         return before;
     }
@@ -79,7 +75,7 @@ pub fn read_program(text: &[u8]) -> ProgramRead
     let mut at = 0;
     let mut count = 0;
     loop {
-        let read = rule_at(text, at, false, MOST_RULES <= count);
+        let read = look_at(text, at, MOST_RULES <= count);
         let progress = read.progress;
         let place = progress.place;
         if progress.code != 0 {
@@ -88,8 +84,8 @@ pub fn read_program(text: &[u8]) -> ProgramRead
         if read.ended {
             return finished(unbound, count);
         }
-        let rule = read.rule;
-        unbound = earlier(unbound, rule);
+        let here = read.unbound;
+        unbound = earlier(unbound, here);
         at = progress.next;
         count += 1;
     }

@@ -1,6 +1,6 @@
 -- The rows of a head and of a body, stored one after the other, stand for them.
 use mathlib.Core.Path.{_≡_, refl, sym, ap, _∙_}
-use mathlib.Core.Bool.{true, false}
+use mathlib.Core.Bool.{Bool, true, false}
 use mathlib.Core.Option.{some}
 use mathlib.Core.List.{List, [], _∷_, _++_, map, map-append}
 use Prim.Native.Nat.{ℕ, _+_, _*_, _≤_, _<_, min}
@@ -15,8 +15,9 @@ use Rattle.codes.proofs.Pairwise.{pairwise-more, pairwise-append}
 use Rattle.tables.specs.Rows.{from, no-literal, no-operation, atom-with, atom-at, head-at}
 use Rattle.rule.specs.declared.Literal as value-literal
 use Rattle.rule.specs.declared.Rule as value-rule
-use Rattle.rule.specs.Plain.{meant-head, meant-rule}
-use Rattle.rule.specs.Stands.{head-of, rule-of}
+use Rattle.rule.specs.Plain.{meant-head}
+use Rattle.rule.specs.Stands.{head-of}
+use Rattle.rule.specs.declared.Atom as value-atom
 use Rattle.safety.specs.Scanned.{meant}
 use Rattle.safety.proofs.Meant.{atom, literal, body-is, body-length}
 use Rattle.names.specs.Table.{names-of}
@@ -27,22 +28,22 @@ use Rattle.rows.specs.Coding.{CodedAtom, CodedLiteral, Codes}
 use Rattle.rows.proofs.Growth.{grows-none, grows-then, room-after, keeps-literal}
 use Rattle.rows.proofs.Parts.{take-held, every-at}
 use Rattle.rulerows.specs.Stored.{with-row, Kept, row-at}
-use Rattle.rulerows.specs.Rules.{HeadCoded, BodyCoded}
+use Rattle.rulerows.specs.Rules.{head-meant, HeadCoded, BodyCoded}
 use Rattle.rulerows.proofs.Stored.{put-kept-of, put-part-of, kept-self, kept-then, kept-wider, kept-part}
 use Rattle.rulerows.proofs.RowParts.{from-suc, from-same, atom-part}
 
 -- ---- the head
 
-module _ (program output text : Bytes) (names : List ℕ) (r : value-rule.Rule) where
-  head-is : r .headed ≡ true → meant text r .head ≡ some (atom text (r .head))
-  unfolding meant-rule rule-of meant-head head-of
+module _ (program output text : Bytes) (names : List ℕ) (headed : Bool) (a : value-atom.Atom) where
+  head-is : headed ≡ true → head-meant text headed a ≡ some (atom text a)
+  unfolding meant-head head-of
   head-is e = rw e
 
-  pub head-codable : r .headed ≡ true → CodableHead (meant text r .head) → CodableAtom (atom text (r .head))
+  pub head-codable : headed ≡ true → CodableHead (head-meant text headed a) → CodableAtom (atom text a)
   head-codable e h = rw (head-is e) at h
 
   module _ (at : ℕ) (low : at < 65_535) (literals : List ℕ) (long : at * 12 + 12 ≤ length literals) where
-    pub head-stored : r .headed ≡ true → (codes : AtomCodes) (names′ : List ℕ) → Codes program output names 9 (λ ns. CodedAtom ns codes (atom text (r .head))) names′ → (row : List ℕ) → row ≡ 3 ∷ codes .predicate ∷ 0 ∷ no-operation ∷ codes .terms → length row ≡ 12 → (literals′ : List ℕ) → literals′ ≡ with-row literals (at * 12) row → Codes program output names 9 (λ ns. HeadCoded ns literals′ at at (meant text r .head)) names′ × Kept (at * 12) (at * 12 + 12) literals literals′
+    pub head-stored : headed ≡ true → (codes : AtomCodes) (names′ : List ℕ) → Codes program output names 9 (λ ns. CodedAtom ns codes (atom text a)) names′ → (row : List ℕ) → row ≡ 3 ∷ codes .predicate ∷ 0 ∷ no-operation ∷ codes .terms → length row ≡ 12 → (literals′ : List ℕ) → literals′ ≡ with-row literals (at * 12) row → Codes program output names 9 (λ ns. HeadCoded ns literals′ at at (head-meant text headed a)) names′ × Kept (at * 12) (at * 12 + 12) literals literals′
     unfolding head-at atom-with atom-at
     head-stored e codes names′ h row q twelve literals′ s =
         let fits : at * 12 + length row ≤ length literals = omega arith in
@@ -50,8 +51,8 @@ module _ (program output text : Bytes) (names : List ℕ) (r : value-rule.Rule) 
         let same : atom-at literals′ at ≡ atom-at (3 ∷ codes .predicate ∷ 0 ∷ no-operation ∷ codes .terms) 0 = atom-part literals′ at ∙ ap (λ (t : List ℕ). atom-at t 0) (here ∙ q) in
         (record { grows = h .grows; coded = record { related = rw (head-is e, ne-eqb at no-literal (λ z. omega arith), same) (both (h .coded .related)); where-it-is = λ z. refl } }, rw s (put-kept-of literals (at * 12) row fits 12 twelve))
 
-    pub no-head : r .headed ≡ false → Room program output names 9 → Codes program output names 9 (λ ns. HeadCoded ns literals at no-literal (meant text r .head)) names × Kept (at * 12) (at * 12 + 12) literals literals
-    unfolding head-at meant-rule rule-of meant-head head-of
+    pub no-head : headed ≡ false → Room program output names 9 → Codes program output names 9 (λ ns. HeadCoded ns literals at no-literal (head-meant text headed a)) names × Kept (at * 12) (at * 12 + 12) literals literals
+    unfolding head-at meant-head head-of
     no-head e room = (record { grows = grows-none program output names 9 (room .in-order); coded = record { related = rw e neither; where-it-is = λ z. absurd (z refl) } }, kept-self (at * 12) (at * 12 + 12) literals)
 
 -- ---- the body

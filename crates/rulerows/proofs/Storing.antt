@@ -17,8 +17,8 @@ use Rattle.meaning.specs.Safety.{term-bound, side-bound, atom-bound, literal-bo
 use Rattle.meaning.proofs.Booleans.{and-both}
 use Rattle.codes.specs.Codes.{Coded}
 use Rattle.codes.specs.Predicates.{CodedName}
-use Rattle.codes.specs.Related.{Perhaps, neither, both, RelatedTerm, RelatedAtom}
-use Rattle.tables.specs.Rows.{no-literal, atom-at, head-at}
+use Rattle.codes.specs.Related.{end, Perhaps, neither, both, RelatedTerm, RelatedAtom}
+use Rattle.tables.specs.Rows.{from, no-literal, atom-at, head-at}
 use Rattle.rule.specs.declared.Rule as value-rule
 use Rattle.safety.specs.Scanned.{meant, Numbered}
 use Rattle.safety.proofs.Meant.{body-length, numbered-by-one-text}
@@ -27,11 +27,11 @@ use Rattle.names.specs.Table.{names-of}
 use Rattle.rows.specs.Codable.{Every, CodableTerm, CodableSide, CodableLiteral}
 use Rattle.rows.specs.Growth.{Room, Grows}
 use Rattle.rows.specs.Coding.{Codes}
-use Rattle.rows.proofs.Growth.{grows-then, room-after, room-less, keeps-atom}
+use Rattle.rows.proofs.Growth.{grows-none, grows-then, room-after, room-less, keeps-atom}
 use Rattle.rulerows.specs.Stored.{Kept, row-at}
 use Rattle.rulerows.specs.Places.{RuleNumbers}
 use Rattle.rulerows.specs.Rules.{names-of-rule, HeadCoded, BodyCoded, Storable, Stores}
-use Rattle.rulerows.proofs.Stored.{inner, kept-then, kept-wider, kept-part}
+use Rattle.rulerows.proofs.Stored.{inner, kept-self, kept-then, kept-wider, kept-part}
 use Rattle.rulerows.proofs.RowParts.{from-same, atom-part}
 use Rattle.rulerows.proofs.RuleRows.{rule-stands, rule-row}
 
@@ -120,6 +120,11 @@ module _ (program output : Bytes) (names rules literals : List ℕ) (number : �
 
     pub body-fits : (number * 17 + 1 + 16) * 12 ≤ length literals₁
     body-fits = let k = s .literals-long in let l = one .1 .long in omega arith
+
+    -- a rule without a body has no rows but its head's
+    pub bodiless : meant text r .body ≡ [] → Codes program output names₁ 144 (λ ns. BodyCoded ns literals₁ (number * 17 + 1) (meant (bytes-at program output source) r .body)) names₁ × Kept ((number * 17 + 1) * 12) ((number * 17 + 1 + 16) * 12) literals₁ literals₁
+    unfolding from
+    bodiless e = (record { grows = grows-none program output names₁ 144 (one .0 .grows .in-order); coded = rw e end }, kept-self _ _ literals₁)
 
     module _ (names₂ literals₂ : List ℕ) (two : Codes program output names₁ 144 (λ ns. BodyCoded ns literals₂ (number * 17 + 1) (meant (bytes-at program output source) r .body)) names₂ × Kept ((number * 17 + 1) * 12) ((number * 17 + 1 + 16) * 12) literals₁ literals₂) (rules′ : List ℕ) (three : RuleNumbers r head (number * 17 + 1) (number * 40) rules′ × Kept (number * 40) (number * 40 + 40) rules rules′) (sixteen : length (r .body) ≡ 16) where
       abbrev filled : List ℕ

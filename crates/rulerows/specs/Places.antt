@@ -12,6 +12,7 @@ use Rattle.rule.specs.declared.Rule as value-rule
 use Rattle.safety.specs.Scanned.{meant, Scanned}
 use Rattle.safety.specs.declared.equation.Scan.{Scan}
 use Rattle.rulerows.specs.declared.places.Rows.{Rows}
+use Rattle.rulerows.specs.declared.places.Numbers.{Numbers}
 
 -- the rows of the positive literals, the first literal having the row `first`
 unfoldable pub positive-rows : ℕ → List value-literal.Literal → List ℕ
@@ -28,6 +29,17 @@ computes l = not (ltb (l .sort) 2) && not (eqb (l .operation) 0)
 
 abbrev pub body-of : value-rule.Rule → List value-literal.Literal
 body-of r = take (r .count) (r .body)
+
+-- what a rule's own row says of its body, which has the rows from `first` on
+pub record Counted (r : value-rule.Rule) (first : ℕ) (n : Numbers) : Type 0 where
+  pub literals : n .literals ≡ min (r .count) 16
+  pub operation : n .operation ≡ cond (any computes (body-of r)) 1 0
+  pub scan : Scan
+  pub scanned : (text : Bytes) → Scanned (meant text r) scan
+  pub equations : take (n .equations .count) (n .equations .rows) ≡ map (λ i. first + i) (take (scan .count) (scan .order))
+  pub few-equations : n .equations .count ≤ 16
+  pub positives : take (n .positives .count) (n .positives .rows) ≡ positive-rows first (body-of r)
+  pub few-positives : n .positives .count ≤ 16
 
 -- the 40 numbers of a rule from the place `at` on; its head has the row `head`, its body the rows from `first` on
 pub record RuleNumbers (r : value-rule.Rule) (head first at : ℕ) (rules : List ℕ) : Type 0 where

@@ -1,6 +1,6 @@
 -- What storing a rule does: its literals have the 17 rows from 17 times its number on, the head's first.
 use mathlib.Core.Path.{_≡_}
-use mathlib.Core.Bool.{true}
+use mathlib.Core.Bool.{Bool, true}
 use mathlib.Core.Option.{Option}
 use mathlib.Core.List.{List}
 use Prim.Native.Nat.{ℕ, _+_, _*_, _≤_}
@@ -8,6 +8,9 @@ use lib.ListN.{length, take}
 use Rattle.meaning.specs.Rules.{Bytes, Term, Atom, Literal, Rule}
 use Rattle.meaning.specs.Values.{Value}
 use Rattle.meaning.specs.Safety.{safe}
+use Rattle.rule.specs.declared.Atom as value-atom
+use Rattle.rule.specs.Plain.{meant-head}
+use Rattle.rule.specs.Stands.{head-of}
 use Rattle.codes.specs.Codes.{Coded}
 use Rattle.codes.specs.Predicates.{CodedName}
 use Rattle.codes.specs.Related.{Pairwise, Perhaps, RelatedTerm, RelatedAtom, RelatedRule}
@@ -24,6 +27,10 @@ abbrev pub names-of-rule : ℕ
 names-of-rule = 153
 
 -- ---- the head's row and the body's, beside a list of names
+
+-- the head of a rule by value, if it has one
+abbrev pub head-meant : Bytes → Bool → value-atom.Atom → Option (Atom (Term Value))
+head-meant text headed a = meant-head (head-of text headed a)
 
 pub record HeadCoded (names : List Bytes) (literals : List ℕ) (at head : ℕ) (m : Option (Atom (Term Value))) : Type 0 where
   pub related : Perhaps (RelatedAtom (CodedName names) (RelatedTerm (Coded names))) (head-at literals head) m

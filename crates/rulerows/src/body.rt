@@ -7,12 +7,13 @@ ghost use Rattle.rows.specs.Codable.{Every, CodableHead, CodableLiteral};
 ghost use Rattle.rows.specs.Growth.{Room};
 ghost use Rattle.rows.specs.Coding.{Codes};
 ghost use Rattle.rulerows.specs.Stored.{Kept};
-ghost use Rattle.rulerows.specs.Rules.{HeadCoded, BodyCoded};
+ghost use Rattle.rulerows.specs.Rules.{head-meant, HeadCoded, BodyCoded};
 use crate::row::put_row;
 use lexis::Place;
 use rows::atom::atom_codes;
 use rows::literal::atom_row;
 use rows::literal::literal_row;
+use rule::Atom;
 use rule::MOST_LITERALS;
 use rule::Rule;
 use rule::least;
@@ -28,13 +29,13 @@ pub fn put_head<'a>(
     source: Place,
     literals: &mut [u64],
     at: usize,
-    rule: Rule,
+    headed: bool,
+    head: Atom,
 ) -> u64
-    requires { ⌜ Room (now program) (now output) (now names) 9 × CodableHead (meant (bytes-at (now program) (now output) source) rule .head) × (at < 65_535) × (at * 12 + 12 ≤ length (now literals)) ⌝ }
-    ensures { λ r. ⌜ Codes (now (program .entry)) (now (output .entry)) (now (names .entry)) 9 (λ ns. HeadCoded ns (now (literals .exit)) at r (meant (bytes-at (now (program .entry)) (now (output .entry)) source) rule .head)) (now (names .exit)) × Kept (at * 12) (at * 12 + 12) (now (literals .entry)) (now (literals .exit)) ⌝ }
+    requires { ⌜ Room (now program) (now output) (now names) 9 × CodableHead (head-meant (bytes-at (now program) (now output) source) headed head) × (at < 65_535) × (at * 12 + 12 ≤ length (now literals)) ⌝ }
+    ensures { λ r. ⌜ Codes (now (program .entry)) (now (output .entry)) (now (names .entry)) 9 (λ ns. HeadCoded ns (now (literals .exit)) at r (head-meant (bytes-at (now (program .entry)) (now (output .entry)) source) headed head)) (now (names .exit)) × Kept (at * 12) (at * 12 + 12) (now (literals .entry)) (now (literals .exit)) ⌝ }
 {
-    if rule.headed {
-        let head = rule.head;
+    if headed {
         let codes = atom_codes(program, output, names, source, head);
         let row = atom_row(HEAD, codes);
         put_row(literals, at * LITERAL, &row);

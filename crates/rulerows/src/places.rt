@@ -1,14 +1,17 @@
 // The 40 numbers of a rule that has its literals' rows.
 ghost use mathlib.Core.Path.{_≡_};
-ghost use mathlib.Core.Bool.{cond};
+ghost use mathlib.Core.Bool.{true, cond};
 ghost use mathlib.Core.List.{map};
 ghost use Prim.Native.Nat.{ℕ, _+_, _≤_, _<_};
 ghost use lib.Dec.{eqb};
 ghost use lib.ListN.{length, take};
 ghost use Rattle.meaning.specs.Sets.{In, any};
+ghost use Rattle.rule.specs.declared.Atom.{Atom};
+ghost use Rattle.rule.specs.declared.Rule.{Rule};
+ghost use Rattle.rule.specs.Build.{noVariables, headOnly};
 ghost use Rattle.safety.specs.Scanned.{Numbered};
 ghost use Rattle.rulerows.specs.Stored.{Kept};
-ghost use Rattle.rulerows.specs.Places.{with-one, positive-rows, computes, body-of, RuleNumbers};
+ghost use Rattle.rulerows.specs.Places.{with-one, positive-rows, computes, body-of, Counted, RuleNumbers};
 use crate::row::put_row;
 use rule::Literal;
 use rule::MOST_LITERALS;
@@ -23,6 +26,15 @@ use tables::POSITIVE_PLACES;
 pub struct Rows {
     pub rows: [u64; MOST_LITERALS],
     pub count: usize,
+}
+
+// What a rule's own row says of its body: how many literals, whether one has an operation, the rows of the equations that bind and of the
+// positive literals.
+pub struct Numbers {
+    pub literals: usize,
+    pub operation: u64,
+    pub equations: Rows,
+    pub positives: Rows,
 }
 
 // The rows found so far, with the literal's if it is a positive atom.
@@ -99,18 +111,49 @@ fn has_operation(rule: Rule) -> u64
     0
 }
 
-// The numbers of a rule whose head has the row `head` and whose body the rows from `first` on.
-pub fn put_numbers(rules: &mut [u64], at: usize, head: u64, first: usize, rule: Rule)
-    requires { ⌜ Numbered rule × (first < 65_535) × (at + 40 ≤ length (now rules)) ⌝ }
-    ensures { λ _. ⌜ RuleNumbers rule head first at (now (rules .exit)) × Kept at (at + 40) (now (rules .entry)) (now (rules .exit)) ⌝ }
+// The numbers of a rule whose body has the rows from `first` on.
+pub fn numbers_of(rule: Rule, first: usize) -> Numbers
+    requires { ⌜ Numbered rule × (first < 65_535) ⌝ }
+    ensures { λ n. ⌜ Counted rule first n ⌝ }
 {
     let positives = positive_rows(rule, first);
     let equations = equation_rows(scan(rule), first);
+    Numbers {
+        literals: least(rule.count, MOST_LITERALS),
+        operation: has_operation(rule),
+        equations,
+        positives,
+    }
+}
+
+// The numbers of a rule that has no body.
+pub fn no_numbers() -> Numbers
+    ensures { λ n. ⌜ ((head : Atom) (first : ℕ) → Counted (headOnly true head noVariables) first n) ⌝ }
+{
+    let none = Rows {
+        rows: [0; MOST_LITERALS],
+        count: 0,
+    };
+    Numbers {
+        literals: 0,
+        operation: 0,
+        equations: none,
+        positives: none,
+    }
+}
+
+// The row of a rule whose head has the row `head` and whose body the rows from `first` on.
+pub fn put_numbers(rules: &mut [u64], at: usize, head: u64, first: usize, numbers: Numbers)
+    requires { ⌜ at + 40 ≤ length (now rules) ⌝ }
+    ensures { λ _. ⌜ ((rule : Rule) → Counted rule first numbers → RuleNumbers rule head first at (now (rules .exit))) × Kept at (at + 40) (now (rules .entry)) (now (rules .exit)) ⌝ }
+{
+    let equations = numbers.equations;
+    let positives = numbers.positives;
     let header = [
         head,
         first as u64,
-        least(rule.count, MOST_LITERALS) as u64,
-        has_operation(rule),
+        numbers.literals as u64,
+        numbers.operation,
         equations.count as u64,
         positives.count as u64,
     ];

@@ -7,4 +7,5 @@ pub mod Gains
 pub mod Going
 pub mod FirstUnbound
 pub mod Safe
+pub mod Bodiless
 pub mod ScannedOnce

@@ -85,7 +85,7 @@ one-by-one x (positive a ∷ ls) = rw (or-false (in-atom x a), one-by-one x ls)
 one-by-one x (negated a ∷ ls) = one-by-one x ls
 one-by-one x (builtin c t e ∷ ls) = one-by-one x ls
 
-no-bits : (x : ℕ) → bitsOf noBits x ≡ false
+pub no-bits : (x : ℕ) → bitsOf noBits x ≡ false
 unfolding bitsOf
 no-bits x = go (ltb x 16) refl
   where

@@ -1,8 +1,7 @@
 -- What the functions that read arguments return. The loop's invariant: those that stand there by value have been read as far as here.
 use mathlib.Core.Path.{_≡_, refl, sym as inv, ap, _∙_}
 use mathlib.Core.Bool.{Bool, true, false, true≢false, false≢true}
-use mathlib.Core.Option.{Option, none, some}
-use mathlib.Core.List.{List, [], _∷_, _++_}
+use mathlib.Core.List.{[], _∷_, _++_}
 use Prim.Native.Nat.{ℕ, suc, _+_, _-_, _≤_, _<_}
 use native.Mathlib.Omega.{arith}
 use native.Mathlib.Numerals.{add-one}
@@ -10,21 +9,18 @@ use lib.Dec.{leb}
 use lib.ListN.{length, length-set}
 use borrow.Author.Tests.{ne-eqb, leb-false}
 use Rattle.lexis.specs.Tokens.{part}
-use Rattle.reading.specs.Reading.{_▹_}
-use Rattle.reading.specs.Machine.{Step}
 use Rattle.meaning.specs.Rules.{Bytes}
 use Rattle.grammar.specs.Tokens.{closing}
-use Rattle.grammar.specs.Trees.{Sequence, empty, _then_, count, Term as TermTree, Arguments as Tree, parentheses, arguments, atom}
-use Rattle.grammar.specs.Spelling.{inside, argument, mere, with-commas, spell-term, spell-argument, spell-arguments}
-use Rattle.grammar.specs.Variables.{Variables as Names, meet-symbol, meet, met}
+use Rattle.grammar.specs.Trees.{Sequence, empty, _then_, count, Term as TermTree, parentheses, arguments}
+use Rattle.grammar.specs.Spelling.{inside, argument, mere, with-commas, spell-argument, spell-arguments}
+use Rattle.grammar.specs.Variables.{meet-symbol, meet, met}
 use Rattle.grammar.specs.Sizes.{too-big, too-long, too-many, is-underscore, too-many-variables}
-use Rattle.grammar.specs.States.{State, AtomContext, argument-in, opened, closed, term-wanted, term-read, term-mark}
+use Rattle.grammar.specs.States.{argument-in, opened, term-wanted, term-read, term-mark}
 use Rattle.grammar.specs.Moves.{symbol-number, token-number, when, fire, either, try}
 use Rattle.grammar.specs.Machine.{after-term, moves, step, finished}
 use Rattle.grammar.proofs.Numbers.{try-number, fire-number}
 use Rattle.grammar.proofs.Steps.{opened-same}
 use Rattle.grammar.proofs.Variables.{met-append, met-term}
-use Rattle.rule.specs.declared.Term.{Term}
 use Rattle.rule.specs.declared.Arguments.{Arguments}
 use Rattle.rule.specs.declared.Variables.{Variables}
 use Rattle.rule.specs.Stands.{term-of, arguments-of, variables-of}
@@ -34,11 +30,11 @@ use Rattle.syntax.specs.declared.term.TermRead.{TermRead}
 use Rattle.syntax.specs.declared.separator.SeparatorRead.{SeparatorRead}
 use Rattle.syntax.specs.declared.arguments.ArgumentsRead.{ArgumentsRead}
 use Rattle.syntax.specs.Text.{token-of, tokenRead}
-use Rattle.syntax.specs.Ahead.{Wants, wants, from}
-use Rattle.syntax.specs.Written.{plain-term, plain-terms, plain-arguments}
-use Rattle.syntax.specs.Reads.{Fits, Reads, read, stopped}
+use Rattle.syntax.specs.Ahead.{wants, from}
+use Rattle.syntax.specs.Written.{plain-terms, plain-arguments}
+use Rattle.syntax.specs.Reads.{Fits, read, stopped}
 use Rattle.syntax.specs.Terms.{TermPlace, ReadsTerm}
-use Rattle.syntax.specs.Arguments.{ArgumentsPlace, ReadsArguments, stoppedSeparator, goneSeparator, Separates, comma, last, neither, stoppedArguments, goneArguments}
+use Rattle.syntax.specs.Arguments.{ArgumentsPlace, ReadsArguments, Separates, comma, last, neither, stoppedArguments, goneArguments}
 use Rattle.syntax.proofs.Tokens.{token-by, within, number-here}
 use Rattle.syntax.proofs.Steps.{meets-none, on-kind, wrong-token, same-token}
 use Rattle.syntax.proofs.Sizes.{fault-none}

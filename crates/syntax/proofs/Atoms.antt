@@ -1,9 +1,9 @@
 -- What the functions that read a classical atom return, by the tests that led there.
 use mathlib.Core.Path.{_≡_, refl, sym as inv, ap, _∙_}
 use mathlib.Core.Bool.{Bool, true, false, true≢false}
-use mathlib.Core.Option.{Option, none, some}
-use mathlib.Core.List.{List, [], _∷_, _++_}
-use Prim.Native.Nat.{ℕ, suc, _+_, _≤_, _<_}
+use mathlib.Core.Option.{none, some}
+use mathlib.Core.List.{List, [], _++_}
+use Prim.Native.Nat.{ℕ, _+_, _≤_}
 use native.Mathlib.Omega.{arith}
 use lib.Dec.{eqb, leb}
 use lib.ListN.{length}
@@ -11,15 +11,14 @@ use borrow.Author.Tests.{ne-eqb, eqb-true, eqb-false, leb-true}
 use Rattle.lexis.specs.declared.Place.{Place}
 use Rattle.lexis.specs.Tokens.{part}
 use Rattle.reading.specs.Reading.{refused}
-use Rattle.reading.specs.Machine.{Step}
 use Rattle.meaning.specs.Rules.{Bytes}
 use Rattle.grammar.specs.Tokens.{Token, opening}
-use Rattle.grammar.specs.Trees.{count, Arguments as Tree, bare, Atom as AtomTree, atom, Program}
-use Rattle.grammar.specs.Spelling.{Mark, inside, rule, mere, spell-arguments, spell-signed, spell-atom}
-use Rattle.grammar.specs.Variables.{Variables as Names, meet-symbol, meet, met}
+use Rattle.grammar.specs.Trees.{Arguments as Tree, bare, Atom as AtomTree, atom, Program}
+use Rattle.grammar.specs.Spelling.{Mark, inside, spell-arguments, spell-signed, spell-atom}
+use Rattle.grammar.specs.Variables.{meet-symbol, meet, met}
 use Rattle.grammar.specs.Sizes.{too-big, too-long, too-many, is-underscore, too-many-variables}
 use Rattle.grammar.specs.States.{State, AtomContext, head-behind, literal-in, not-in, atom-wanted, atom-minus, named, opened, closed, atom-mark}
-use Rattle.grammar.specs.Moves.{Move, on, on-comparison, on-name, free-moves, symbol-number, token-number, when, fire, either, try}
+use Rattle.grammar.specs.Moves.{Move, on, free-moves, symbol-number, token-number, when, fire, either, try}
 use Rattle.grammar.specs.Machine.{after-atom, else-wanted, else-minus, else-named, moves, step, finished-atom, finished}
 use Rattle.grammar.proofs.Numbers.{fire-number, fire-by-number, try-number}
 use Rattle.grammar.proofs.Variables.{met-append, met-signed}
@@ -32,13 +31,13 @@ use Rattle.syntax.specs.declared.token.TokenRead.{TokenRead}
 use Rattle.syntax.specs.declared.arguments.ArgumentsRead.{ArgumentsRead}
 use Rattle.syntax.specs.declared.atom.AtomRead.{AtomRead}
 use Rattle.syntax.specs.Text.{token-of, tokenRead}
-use Rattle.syntax.specs.Ahead.{Wants, wants, from}
+use Rattle.syntax.specs.Ahead.{wants, from}
 use Rattle.syntax.specs.Written.{plain-arguments, plain-atom}
 use Rattle.syntax.specs.Reads.{Production, Fits, Reads, read, stopped}
 use Rattle.syntax.specs.Terms.{wordCode}
 use Rattle.syntax.specs.Arguments.{ArgumentsPlace, ReadsArguments}
 use Rattle.syntax.specs.Atoms.{NamedPlace, MinusPlace, AtomPlace, head, negated, atom-context, ReadsNamed, ReadsMinus, ReadsAtom, stoppedAtom, goneAtom}
-use Rattle.syntax.proofs.Tokens.{token-by, token-here, within, part-length, number-here}
+use Rattle.syntax.proofs.Tokens.{token-by, token-here, part-length, number-here}
 use Rattle.syntax.proofs.Steps.{meets-none, on-kind, over-kind, wrong-token, same-token}
 use Rattle.syntax.proofs.Sizes.{fault-none, fault-many, word-kept, word-four, word-fault}
 

@@ -2,19 +2,19 @@
 use mathlib.Core.Path.{_≡_, refl, sym as inv, ap, _∙_}
 use mathlib.Core.Bool.{Bool, true, false, true≢false, false≢true}
 use mathlib.Core.Option.{Option, none, some}
-use mathlib.Core.List.{List, [], _∷_, _++_, map}
-use Prim.Native.Nat.{ℕ, suc, _+_, _-_, _≤_, _<_}
+use mathlib.Core.List.{[]}
+use Prim.Native.Nat.{ℕ, suc, _-_, _≤_, _<_}
 use native.Mathlib.Omega.{arith}
 use native.Mathlib.Numerals.{add-one}
 use lib.Dec.{leb}
-use lib.ListN.{length, take, length-set}
+use lib.ListN.{length, length-set}
 use borrow.Author.Tests.{ne-eqb, leb-false}
 use Rattle.lexis.specs.Tokens.{part}
 use Rattle.reading.specs.Reading.{refused}
 use Rattle.reading.specs.Machine.{walk}
 use Rattle.meaning.specs.Rules.{Bytes}
-use Rattle.grammar.specs.Trees.{Sequence, empty, _then_, count, Atom as AtomTree, Literal as LiteralTree, clause, Program}
-use Rattle.grammar.specs.Spelling.{inside, literal, with-commas, spell-literal, spell-nth-literal}
+use Rattle.grammar.specs.Trees.{Sequence, empty, _then_, count, Atom as AtomTree, Literal as LiteralTree, Program}
+use Rattle.grammar.specs.Spelling.{inside, literal, with-commas, spell-nth-literal}
 use Rattle.grammar.specs.Variables.{meet-symbol, meet, met}
 use Rattle.grammar.specs.Sizes.{too-big, too-long, too-many, is-underscore, too-many-variables, language}
 use Rattle.grammar.specs.States.{BodyContext, head-behind, literal-in, atom-wanted}
@@ -33,12 +33,12 @@ use Rattle.syntax.specs.declared.builtin.LiteralRead.{LiteralRead}
 use Rattle.syntax.specs.declared.body.RuleRead.{RuleRead}
 use Rattle.syntax.specs.Text.{token-of, placed-from, end-of, tokenRead}
 use Rattle.syntax.specs.Ahead.{wants, wanting, firsts, from}
-use Rattle.syntax.specs.Written.{plain-literal, plain-literals}
+use Rattle.syntax.specs.Written.{plain-literals}
 use Rattle.syntax.specs.Reads.{Fits, read, stopped}
 use Rattle.syntax.specs.Arguments.{Separates, comma, last, neither}
 use Rattle.syntax.specs.Builtins.{behind-literal}
 use Rattle.syntax.specs.Literals.{LiteralPlace, ReadsLiteral}
-use Rattle.syntax.specs.Rules.{behind-rules, places-of, body-of, Body, ReadsBody, stoppedRule, goneRule}
+use Rattle.syntax.specs.Rules.{places-of, body-of, ReadsBody, stoppedRule, goneRule}
 use Rattle.syntax.proofs.Tokens.{token-by, within}
 use Rattle.syntax.proofs.Steps.{same-walk, meets-none, on-kind, wrong-token, dot-token}
 use Rattle.syntax.proofs.Sizes.{fault-none}
@@ -81,7 +81,7 @@ module _ (text : Bytes) (at₀ : ℕ) (headed : Bool) (a : Atom) (v₀ : Variabl
     where
       go : ReadsLiteral (leb 16 (rule .count)) text at (rule .variables) r → ReadsBody text at₀ headed a v₀ (stoppedRule (r .progress .code) (r .progress .place))
       go (read c n o f x p m q) = absurd (ne c)
-      go (stopped c q) = ReadsBody.stopped c (λ p h. ap (λ y. y .answer) (g .walks p h) ∙ q (place p h))
+      go (stopped c q) = ReadsBody.stopped refl c (λ p h. ap (λ y. y .answer) (g .walks p h) ∙ q (place p h))
 
   pub going-room : r .progress .code ≡ 0 → rule .count < 16
   going-room e = leb-false 16 (rule .count) (reads-kept gr e)
@@ -135,7 +135,7 @@ module _ (text : Bytes) (at₀ : ℕ) (headed : Bool) (a : Atom) (v₀ : Variabl
           go : Separates false text (r .progress .next) 8 s → ReadsBody text at₀ headed a v₀ (stoppedRule (s .progress .code) (s .progress .place))
           go (comma k q) = absurd (ne (rw q))
           go (last k q) = absurd (ne (rw q))
-          go (neither k l q) = rw q (ReadsBody.stopped (omega arith) (λ p h. ap (λ y. y .answer) (grown .walks p h) ∙ wrong-token false text (r .progress .next) t refl (behind-literal (body-with p h (g .literals)) (grown .one)) (b .variables) (rw (ne-eqb (t .kind) 7 k, ne-eqb (t .kind) 8 l)) (λ z. refl)))
+          go (neither k l q) = rw q (ReadsBody.stopped refl (omega arith) (λ p h. ap (λ y. y .answer) (grown .walks p h) ∙ wrong-token false text (r .progress .next) t refl (behind-literal (body-with p h (g .literals)) (grown .one)) (b .variables) (rw (ne-eqb (t .kind) 7 k, ne-eqb (t .kind) 8 l)) (λ z. refl)))
 
       -- the last literal
       pub going-end : s .progress .code ≡ 0 → s .last ≡ true → (w : RuleRead) → w ≡ goneRule b (s .progress .next) → ReadsBody text at₀ headed a v₀ w

@@ -1,34 +1,32 @@
 -- What the functions that read a built-in atom return, by the tests that led there.
 use mathlib.Core.Path.{_≡_, refl, sym as inv, ap, _∙_}
-use mathlib.Core.Bool.{Bool, true, false, cond, _&&_, true≢false, false≢true}
+use mathlib.Core.Bool.{Bool, true, false, _&&_, false≢true}
 use mathlib.Core.Logic.{_⊎_, inl, inr}
-use mathlib.Core.Option.{Option, none, some}
-use mathlib.Core.List.{List, [], _∷_, _++_, append-nil, append-assoc}
-use Prim.Native.Nat.{ℕ, suc, _+_, _≤_, _<_}
+use mathlib.Core.List.{append-nil, append-assoc}
+use Prim.Native.Nat.{ℕ, _≤_, _<_}
 use native.Mathlib.Omega.{arith}
 use lib.Dec.{eqb, leb}
 use lib.ListN.{length}
-use borrow.Author.Tests.{ne-eqb, eq-eqb, eqb-true, eqb-false, leb-true, leb-false, le-leb, lt-leb}
+use borrow.Author.Tests.{ne-eqb, eqb-true, eqb-false, leb-true, le-leb, lt-leb}
 use Rattle.lexis.specs.declared.kind.Kind.{Kind}
 use Rattle.lexis.specs.declared.kind.Kind.the-variants.{Name, Not, Variable, Anonymous, Number, Open, Close, Comma, Dot, If, Minus, Plus, Times, Equal, Unequal, AlsoUnequal, Less, AtMost, Greater, AtLeast, End, Stray}
-use Rattle.lexis.specs.declared.Place.{Place}
 use Rattle.lexis.specs.Kind.{kindNumber}
 use Rattle.lexis.specs.Tokens.{part}
 use Rattle.lexis.specs.Token.{nextToken}
-use Rattle.lexis.proofs.KindNumber.{kindAt, kind-at-number}
+use Rattle.lexis.proofs.KindNumber.{kind-at-number}
 use Rattle.reading.specs.Reading.{refused}
-use Rattle.meaning.specs.Domain.{Comparison, Operation, plus, minus, times}
+use Rattle.meaning.specs.Domain.{Operation, plus, minus, times}
 use Rattle.meaning.specs.Rules.{Bytes}
-use Rattle.grammar.specs.Tokens.{Sign, sign, <>, Token, comparison}
+use Rattle.grammar.specs.Tokens.{sign, Token, comparison}
 use Rattle.grammar.specs.Trees.{Term as TermTree, Literal as Tree}
-use Rattle.grammar.specs.Spelling.{Mark, inside, mere, spell-term, spell-operation, spell-compared, spell-literal}
+use Rattle.grammar.specs.Spelling.{inside, spell-term, spell-operation, spell-compared, spell-literal}
 use Rattle.grammar.specs.Variables.{Variables as Names, meet-symbol, meet, met}
 use Rattle.grammar.specs.Sizes.{too-big, too-long, too-many, is-underscore, too-many-variables}
-use Rattle.grammar.specs.States.{State, BodyContext, left-in, right-in, operand-in, term-wanted, term-read, term-mark}
-use Rattle.grammar.specs.Moves.{Move, on, on-comparison, symbol-number, token-number, when, fire, either, try}
-use Rattle.grammar.specs.Machine.{after-literal, after-term, moves, step, finished}
+use Rattle.grammar.specs.States.{BodyContext, left-in, right-in, operand-in, term-wanted, term-read, term-mark}
+use Rattle.grammar.specs.Moves.{on, symbol-number, token-number, when, fire, either, try}
+use Rattle.grammar.specs.Machine.{after-literal, after-term, moves, finished}
 use Rattle.grammar.specs.Abstraction.{comparison-for}
-use Rattle.grammar.proofs.Numbers.{sign-of, fire-number, fire-by-number, try-number, try-by-number, comparison-by-number}
+use Rattle.grammar.proofs.Numbers.{sign-of, fire-number, try-number, try-by-number, comparison-by-number}
 use Rattle.grammar.proofs.Variables.{met-append}
 use Rattle.rule.specs.declared.Term.{Term}
 use Rattle.rule.specs.declared.Variables.{Variables}
@@ -44,7 +42,7 @@ use Rattle.syntax.specs.Written.{plain-term, plain-literal}
 use Rattle.syntax.specs.Reads.{Production, Fits, Reads, read, stopped}
 use Rattle.syntax.specs.Terms.{TermPlace, ReadsTerm}
 use Rattle.syntax.specs.Builtins.{behind-literal, Tail, nothing, operand, with-tail, spell-tail, plain-tail, TailPlace, Side, SidePlace, spell-side, plain-side, ReadsTail, ReadsSide, ReadsCompared, refused-left, reads-side, stoppedLiteral, goneBuiltin}
-use Rattle.syntax.proofs.Tokens.{token-by, token-here, within, number-here}
+use Rattle.syntax.proofs.Tokens.{token-by, token-here, number-here}
 use Rattle.syntax.proofs.Steps.{meets-none, on-token, on-kind, wrong-token, same-token}
 use Rattle.syntax.proofs.Sizes.{fault-none}
 

@@ -1,29 +1,27 @@
 -- What the functions that read a literal return, by the tests that led there.
-use mathlib.Core.Path.{_≡_, refl, sym as inv, ap, _∙_}
-use mathlib.Core.Bool.{Bool, true, false, _&&_, false≢true, true≢false}
-use mathlib.Core.Option.{Option, none, some}
-use mathlib.Core.List.{List, [], _∷_, _++_}
+use mathlib.Core.Path.{_≡_, refl, sym as inv, _∙_}
+use mathlib.Core.Bool.{Bool, true, false, _&&_, false≢true}
+use mathlib.Core.Option.{some}
 use Prim.Native.Nat.{ℕ, suc, _≤_, _<_}
 use native.Mathlib.Omega.{arith}
 use lib.Dec.{leb}
 use borrow.Author.Tests.{ne-eqb}
 use Rattle.lexis.specs.Tokens.{part}
-use Rattle.reading.specs.Reading.{refused}
 use Rattle.meaning.specs.Rules.{Bytes}
 use Rattle.grammar.specs.Tokens.{Token}
-use Rattle.grammar.specs.Trees.{count, Term as TermTree, name, Atom as AtomTree, Literal as Tree, positive, negated}
-use Rattle.grammar.specs.Spelling.{Mark, inside, literal, spell-term, spell-atom, spell-literal}
-use Rattle.grammar.specs.Variables.{Variables as Names, meet-symbol, meet, met}
-use Rattle.grammar.specs.Sizes.{too-big, too-long, too-many, is-underscore, too-many-variables}
-use Rattle.grammar.specs.States.{State, BodyContext, AtomContext, literal-in, not-in, left-in, right-in, atom-wanted, atom-minus, named, closed, term-wanted, term-minus, term-read, atom-mark, term-mark}
-use Rattle.grammar.specs.Moves.{Move, on-comparison, on, symbol-number, token-number, when, fire, either, try}
-use Rattle.grammar.specs.Machine.{after-literal, after-atom, after-term, else-wanted, else-minus, else-named, moves, step, finished-atom, finished}
-use Rattle.grammar.proofs.Numbers.{fire-number, fire-by-number, try-number, try-by-number}
+use Rattle.grammar.specs.Trees.{count, name, positive, negated}
+use Rattle.grammar.specs.Spelling.{Mark, literal, spell-term, spell-literal}
+use Rattle.grammar.specs.Variables.{meet-symbol, meet, met}
+use Rattle.grammar.specs.Sizes.{too-big, too-long, is-underscore, too-many-variables}
+use Rattle.grammar.specs.States.{State, BodyContext, literal-in, not-in, left-in, atom-wanted, atom-minus, named, term-wanted, term-minus, term-read, atom-mark, term-mark}
+use Rattle.grammar.specs.Moves.{symbol-number, token-number, when, fire, either, try}
+use Rattle.grammar.specs.Machine.{after-atom, after-term, else-wanted, else-named, moves, step, finished-atom, finished}
+use Rattle.grammar.proofs.Numbers.{fire-number, try-number, try-by-number}
 use Rattle.grammar.proofs.Steps.{left-same, left-minus-same}
 use Rattle.rule.specs.declared.Term.{Term}
 use Rattle.rule.specs.declared.Variables.{Variables}
-use Rattle.rule.specs.Plain.{PlainTerm, PlainLiteral}
-use Rattle.rule.specs.Stands.{term-of, atom-of, literal-of}
+use Rattle.rule.specs.Plain.{PlainLiteral}
+use Rattle.rule.specs.Stands.{term-of, literal-of}
 use Rattle.syntax.specs.declared.token.TokenRead.{TokenRead}
 use Rattle.syntax.specs.declared.term.TermRead.{TermRead}
 use Rattle.syntax.specs.declared.atom.AtomRead.{AtomRead}
@@ -31,10 +29,10 @@ use Rattle.syntax.specs.declared.builtin.LiteralRead.{LiteralRead}
 use Rattle.syntax.specs.Text.{token-of, tokenRead}
 use Rattle.syntax.specs.Ahead.{Wants, wants, from}
 use Rattle.syntax.specs.Written.{plain-term, plain-literal}
-use Rattle.syntax.specs.Reads.{Production, Fits, Reads, read, stopped}
-use Rattle.syntax.specs.Terms.{TermPlace, ReadsTerm, ReadsNegative, wordCode, termOf}
-use Rattle.syntax.specs.Atoms.{MinusPlace, AtomPlace, atom-context, ReadsNamed, ReadsMinus, ReadsAtom}
-use Rattle.syntax.specs.Builtins.{behind-literal, with-tail, SidePlace, ReadsSide, ReadsCompared, stoppedLiteral}
+use Rattle.syntax.specs.Reads.{read, stopped}
+use Rattle.syntax.specs.Terms.{ReadsTerm, ReadsNegative, wordCode, termOf}
+use Rattle.syntax.specs.Atoms.{AtomPlace, atom-context, ReadsNamed, ReadsMinus, ReadsAtom}
+use Rattle.syntax.specs.Builtins.{with-tail, ReadsSide, ReadsCompared, stoppedLiteral}
 use Rattle.syntax.specs.Literals.{LiteralPlace, literal-at, minus-literal-in, ReadsLiteral, ReadsMinusLiteral, atomLiteral}
 use Rattle.syntax.proofs.Tokens.{token-by, token-here, number-here}
 use Rattle.syntax.proofs.Steps.{meets-none, on-kind, over-kind, wrong-token, same-token}

@@ -1,22 +1,21 @@
 -- Every variable of a rule has a number below the number of variables met, so below 16 in a rule that has been read.
 use mathlib.Core.Path.{_≡_, refl, sym as inv, ap, _∙_}
 use mathlib.Core.Bool.{Bool, true, false, cond, _&&_, false≢true}
-use mathlib.Core.Option.{Option, none, some}
+use mathlib.Core.Option.{none, some}
 use mathlib.Core.List.{List, [], _∷_, _++_, map}
 use Prim.Native.Nat.{ℕ, suc, _+_, _≤_, _<_}
 use native.Mathlib.Omega.{arith}
 use lib.Dec.{eqb, ltb}
-use lib.ListN.{length, length-append, take}
-use borrow.Author.Tests.{lt-ltb, ltb-true, ltb-false}
+use lib.ListN.{length, take}
+use borrow.Author.Tests.{lt-ltb, ltb-true}
 use Rattle.reading.specs.Reading.{_▹_}
-use Rattle.meaning.specs.Rules.{Bytes, Term as MeantTerm, Literal as MeantLiteral}
-use Rattle.meaning.specs.Values.{Value}
+use Rattle.meaning.specs.Rules.{Bytes}
 use Rattle.meaning.specs.Sets.{every}
 use Rattle.meaning.specs.Safety.{term-bound, side-bound, atom-bound, literal-bound, head-bound}
 use Rattle.meaning.specs.Domain.{Operation}
 use Rattle.grammar.specs.Tokens.{Sign, closing}
 use Rattle.grammar.specs.Trees.{Sequence, empty, _then_, count, Term, name, variable, number, negative, anonymous, Arguments, bare, parentheses, arguments, Atom, atom, Literal, positive, negated, compared, computed, Rule, fact, clause}
-use Rattle.grammar.specs.Spelling.{Mark, inside, mere, with-commas, spell-term, spell-argument, spell-arguments, spell-signed, spell-atom, spell-compared, spell-operation, spell-literal, spell-nth-literal}
+use Rattle.grammar.specs.Spelling.{Mark, inside, mere, with-commas, spell-term, spell-argument, spell-arguments, spell-signed, spell-atom, spell-compared, spell-literal, spell-nth-literal}
 use Rattle.grammar.specs.Variables.{Variables, number-of, with-variable, meet-symbol, meet, met}
 use Rattle.grammar.specs.Abstraction.{term-for, terms-for, arguments-for, atom-for, literal-for, literals-for, rule-for}
 use Rattle.grammar.proofs.Variables.{met-append, met-literal, met-signed, number-at-most}

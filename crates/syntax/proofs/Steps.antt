@@ -3,15 +3,15 @@ use mathlib.Core.Path.{_≡_, refl, sym as inv, ap, _∙_}
 use mathlib.Core.Bool.{Bool, true, false}
 use mathlib.Core.Option.{Option, none, some}
 use mathlib.Core.List.{List, [], _∷_, _++_, append-nil, append-assoc}
-use Prim.Native.Nat.{ℕ, zero, suc, _≤_}
+use Prim.Native.Nat.{ℕ, zero, suc}
 use native.Mathlib.Omega.{arith}
 use lib.Dec.{eqb}
 use lib.ListN.{length, take}
 use borrow.Author.Tests.{eqb-true, eqb-false, le-ltb}
 use Rattle.lexis.specs.declared.Place.{Place}
 use Rattle.lexis.specs.Tokens.{part}
-use Rattle.reading.specs.Reading.{Marked, Placed, Answer, tree, refused}
-use Rattle.reading.specs.Machine.{Step, Machine, last, walk}
+use Rattle.reading.specs.Reading.{Placed, tree, refused}
+use Rattle.reading.specs.Machine.{Step, walk}
 use Rattle.reading.proofs.Walks.{walk-on, walk-fault, walk-wrong, walk-end, walk-short, walk-same, walk-same-end}
 use Rattle.meaning.specs.Rules.{Bytes}
 use Rattle.grammar.specs.Tokens.{dot, Token, symbol}
@@ -20,14 +20,14 @@ use Rattle.grammar.specs.Spelling.{Mark}
 use Rattle.grammar.specs.Variables.{Variables as Names, meet-symbol, meet}
 use Rattle.grammar.specs.Sizes.{fault, language}
 use Rattle.grammar.specs.States.{State}
-use Rattle.grammar.specs.Moves.{Move, symbol-number, token-number, try}
-use Rattle.grammar.specs.Machine.{moves, step, finished, machine}
+use Rattle.grammar.specs.Moves.{symbol-number, token-number, try}
+use Rattle.grammar.specs.Machine.{moves, step, machine}
 use Rattle.grammar.proofs.Numbers.{try-number, try-by-number}
 use Rattle.rule.specs.declared.Variables.{Variables}
 use Rattle.rule.specs.Stands.{variables-of}
 use Rattle.syntax.specs.declared.token.TokenRead.{TokenRead}
 use Rattle.syntax.specs.Text.{token-of, placed-from, end-of, tokenRead}
-use Rattle.syntax.specs.Ahead.{Wants, wants, wants-behind, wanting, ends-rule, is-first, if-first, firsts, behind-dot, Ahead, from}
+use Rattle.syntax.specs.Ahead.{Wants, wants, wants-behind, wanting, ends-rule, is-first, if-first, firsts, behind-dot, from}
 use Rattle.syntax.proofs.Tokens.{token-by, token-here, number-here, placed-more, placed-end, end-here}
 
 -- the machine by what it wants next is the grammar's machine

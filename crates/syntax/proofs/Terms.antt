@@ -1,45 +1,43 @@
 -- What the functions that read a term return, by the tests that led there.
 use mathlib.Core.Path.{_≡_, refl, sym as inv, ap, _∙_}
-use mathlib.Core.Bool.{Bool, true, false, cond, _||_, true≢false}
-use mathlib.Core.Option.{Option, none, some}
-use mathlib.Core.List.{List, [], _∷_, map}
-use Prim.Native.Nat.{ℕ, suc, _+_, _≤_, _<_}
+use mathlib.Core.Bool.{Bool, true, false, cond, true≢false}
+use mathlib.Core.Option.{none, some}
+use mathlib.Core.List.{[], _∷_, map}
+use Prim.Native.Nat.{ℕ, suc, _≤_, _<_}
 use native.Mathlib.Omega.{arith}
-use lib.Dec.{leb, ltb}
+use lib.Dec.{leb}
 use lib.ListN.{length, take}
 use borrow.Author.Tests.{ne-eqb, lt-leb, le-leb, lt-ltb, le-ltb}
 use Rattle.lexis.specs.Number.{capped, decimal}
 use Rattle.lexis.specs.Tokens.{part}
 use Rattle.reading.specs.Reading.{_▹_}
-use Rattle.reading.specs.Machine.{Step}
 use Rattle.meaning.specs.Rules.{Bytes}
 use Rattle.meaning.specs.Values.{same-bytes}
 use Rattle.grammar.specs.Tokens.{underscore, Token, number}
 use Rattle.grammar.specs.Trees.{Free, Term as Tree}
 use Rattle.grammar.specs.Spelling.{Mark, inside, spell-term}
-use Rattle.grammar.specs.Variables.{Variables as Names, number-of, with-variable, meet-symbol, meet, met}
-use Rattle.grammar.specs.Sizes.{greatest-number, too-big, too-long, too-many, is-underscore, too-many-variables, refusal, fault}
+use Rattle.grammar.specs.Variables.{Variables as Names, with-variable, meet-symbol, meet, met}
+use Rattle.grammar.specs.Sizes.{greatest-number, too-big, too-long, too-many, is-underscore, too-many-variables}
 use Rattle.grammar.specs.States.{State, TermContext, term-wanted, term-minus, term-read, term-mark}
 use Rattle.grammar.specs.Moves.{on-variable, on, free-moves, symbol-number, token-number, when, fire, either, try}
 use Rattle.grammar.specs.Machine.{a-term, moves, step, finished}
 use Rattle.grammar.proofs.Moves.{free-given, free-denied}
 use Rattle.grammar.proofs.Numbers.{try-number, fire-number}
-use Rattle.grammar.proofs.Variables.{number-at-most}
 use Rattle.rule.specs.declared.Term.{Term}
 use Rattle.rule.specs.declared.Variables.{Variables}
 use Rattle.rule.specs.Plain.{PlainTerm}
-use Rattle.rule.specs.Stands.{signed, term-of, variable-at, variables-of}
+use Rattle.rule.specs.Stands.{signed, term-of, variables-of}
 use Rattle.rule.specs.Build.{withPlace}
 use Rattle.syntax.specs.declared.token.TokenRead.{TokenRead}
 use Rattle.syntax.specs.declared.term.TermRead.{TermRead}
 use Rattle.syntax.specs.Text.{token-of, tokenRead}
-use Rattle.syntax.specs.Ahead.{Wants, wants, is-first, if-first, from}
+use Rattle.syntax.specs.Ahead.{wants, if-first, from}
 use Rattle.syntax.specs.Written.{plain-term}
 use Rattle.syntax.specs.Reads.{Production, Fits, Reads, read, stopped}
-use Rattle.syntax.specs.Terms.{TermPlace, term-in, negative-in, ReadsTerm, ReadsNegative, stoppedTerm, goneTerm, termOf, wordCode, numberTerm, first-among}
+use Rattle.syntax.specs.Terms.{TermPlace, ReadsTerm, ReadsNegative, stoppedTerm, goneTerm, termOf, wordCode, numberTerm, first-among}
 use Rattle.syntax.proofs.Tokens.{token-by, token-here, within, part-length, spelled-here}
 use Rattle.syntax.proofs.Steps.{fault-at, Meets, meets-none, on-kind, over-kind, wrong-token}
-use Rattle.syntax.proofs.Sizes.{fault-none, fault-big, fault-long, fault-many, fault-variables, word-kept, word-four, word-fault, capped-small, capped-big}
+use Rattle.syntax.proofs.Sizes.{fault-none, fault-big, fault-many, fault-variables, word-kept, word-four, word-fault, capped-small, capped-big}
 use Rattle.syntax.proofs.Variables.{count-names, one-more, more-places, more-names, named, number-is, number-in-count, known, unknown, added, underscored, length-more}
 
 pub free : {ground : Bool} → ground ≡ false → Free ground

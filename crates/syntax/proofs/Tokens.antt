@@ -1,18 +1,17 @@
 -- The token at a place, by its number: it heads the tokens from there on, or the text ends.
 use mathlib.Core.Path.{_≡_, refl, sym as inv, ap, _∙_}
 use mathlib.Core.Bool.{Bool, true, false, not}
-use mathlib.Core.List.{List, [], _∷_, map}
+use mathlib.Core.List.{[], _∷_, map}
 use Prim.Native.Nat.{ℕ, _+_, _≤_}
 use native.Mathlib.Omega.{arith}
-use lib.Dec.{eqb}
-use lib.ListN.{length, take, drop, length-take, length-drop}
+use lib.ListN.{length, length-take, length-drop}
 use borrow.Author.Tests.{eq-eqb, ne-eqb}
 use Rattle.lexis.specs.declared.kind.Kind.{Kind}
 use Rattle.lexis.specs.declared.kind.Kind.the-variants.{Name, Not, Variable, Anonymous, Number, Open, Close, Comma, Dot, If, Minus, Plus, Times, Equal, Unequal, AlsoUnequal, Less, AtMost, Greater, AtLeast, End, Stray}
 use Rattle.lexis.specs.declared.Token.{Token as TextToken}
 use Rattle.lexis.specs.Kind.{kindNumber, isEnd}
 use Rattle.lexis.specs.Token.{nextToken}
-use Rattle.lexis.specs.Tokens.{part, after, tokensFrom}
+use Rattle.lexis.specs.Tokens.{part}
 use Rattle.lexis.specs.Spelling.{kindOf}
 use Rattle.lexis.proofs.KindNumber.{kindAt, kind-at-number}
 use Rattle.lexis.proofs.Next.{inside, end-place, next-kind}

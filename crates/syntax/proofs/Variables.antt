@@ -1,18 +1,15 @@
 -- Variables by value: the number of one among those met, and one more.
 use mathlib.Core.Path.{_≡_, refl, sym as inv, ap, _∙_}
-use mathlib.Core.Bool.{Bool, true, false, cond, true≢false}
+use mathlib.Core.Bool.{Bool, true, false, cond}
 use mathlib.Core.Option.{Option, none, some}
 use mathlib.Core.List.{List, [], _∷_, _++_, map, map-append}
-use Prim.Native.Nat.{ℕ, zero, suc, _+_, _≤_, _<_}
+use Prim.Native.Nat.{ℕ, suc, _+_, _≤_, _<_}
 use native.Mathlib.Omega.{arith}
 use native.Mathlib.Numerals.{add-one}
-use native.Mathlib.Nat.{add-zero}
-use lib.Dec.{eqb, ltb}
-use lib.ListN.{length, take, drop, getD, set, length-set, length-take, length-append, drop-of-length-le, List·getD-map}
+use lib.ListN.{length, take, drop, getD, set, length-set, length-append, drop-of-length-le, List·getD-map}
 use lib.Seq.{drop-cons, take-suc-set, length-take-le, getD-take}
-use borrow.Author.Tests.{lt-ltb, le-ltb, eq-eqb}
+use borrow.Author.Tests.{lt-ltb, le-ltb}
 use Rattle.lexis.specs.declared.Place.{Place}
-use Rattle.lexis.specs.declared.kind.Kind.{Kind}
 use Rattle.lexis.specs.Tokens.{part}
 use Rattle.lexis.specs.Kind.{kindNumber}
 use Rattle.lexis.specs.Class.{classOf}

@@ -1,17 +1,14 @@
 -- The plain rule of a tree is what the grammar says that the tree means, and its variables' numbers are below the number of variables met.
-use mathlib.Core.Path.{_≡_, refl, sym as inv, ap, _∙_}
+use mathlib.Core.Path.{_≡_, refl, _∙_}
 use mathlib.Core.Bool.{Bool, true}
-use mathlib.Core.Option.{Option, none, some}
-use mathlib.Core.List.{List, [], _∷_, map, map-append}
-use Rattle.reading.specs.Reading.{_▹_}
-use Rattle.meaning.specs.Values.{Value}
-use Rattle.meaning.specs.Rules.{constant, Atom as MeantAtom}
+use mathlib.Core.Option.{none, some}
+use mathlib.Core.List.{[], _∷_, map, map-append}
 use Rattle.grammar.specs.Trees.{Sequence, empty, _then_, Term, name, variable, number, negative, anonymous, Arguments, bare, parentheses, arguments, Atom, atom, Literal, positive, negated, compared, computed, Rule, fact, clause}
 use Rattle.grammar.specs.Spelling.{inside, with-commas, spell-argument, spell-nth-literal, spell-atom}
 use Rattle.grammar.specs.Variables.{Variables, met}
-use Rattle.grammar.specs.Abstraction.{term-for, terms-for, arguments-for, atom-for, literal-for, literals-for, rule-for, value-for, fact-for}
+use Rattle.grammar.specs.Abstraction.{term-for, terms-for, arguments-for, atom-for, literal-for, literals-for, rule-for, fact-for}
 use Rattle.grammar.proofs.Facts.{fact-rule, fact-is-rule}
-use Rattle.rule.specs.Plain.{PlainTerm, PlainAtom, PlainLiteral, PlainRule, meant-term, meant-atom, meant-literal, meant-head, meant-rule}
+use Rattle.rule.specs.Plain.{meant-term, meant-atom, meant-literal, meant-head, meant-rule}
 use Rattle.rule.specs.Stands.{signed}
 use Rattle.syntax.specs.Written.{plain-term, plain-terms, plain-arguments, plain-atom, plain-literal, plain-literals, plain-head, head-variables, plain-rule}
 

@@ -20,8 +20,9 @@ use Rattle.rule.specs.declared.Variables.{Variables}
 use Rattle.rule.specs.declared.Rule.{Rule}
 use Rattle.rule.specs.Plain.{PlainLiteral}
 use Rattle.rule.specs.Stands.{atom-of, literal-of, rule-of, variables-of}
-use Rattle.rule.specs.Build.{noPlace, noRule}
+use Rattle.rule.specs.Build.{noPlace, noAtom, noVariables, noRule, headOnly}
 use Rattle.syntax.specs.declared.body.RuleRead.{RuleRead}
+use Rattle.syntax.specs.declared.start.StartRead.{StartRead}
 use Rattle.syntax.specs.Text.{placed-from, end-of, tokenRead}
 use Rattle.syntax.specs.Ahead.{wants, firsts, behind-dot, from}
 use Rattle.syntax.specs.Written.{plain-atom, plain-literals, plain-rule, rule-variables}
@@ -56,7 +57,7 @@ pub record Body (text : Bytes) (at : ℕ) (headed : Bool) (a : Atom) (v : Variab
 
 pub data ReadsBody (text : Bytes) (at : ℕ) (headed : Bool) (a : Atom) (v : Variables) (r : RuleRead) : Type 0 where
   read : r .progress .code ≡ 0 → Body text at headed a v r → ReadsBody text at headed a v r
-  stopped : 2 ≤ r .progress .code → ((p : Program false) (h : Option (AtomTree false)) → from false text (wants (atom-wanted (literal-in (new-body tt p h)))) v at .answer ≡ refused (r .progress .code) (r .progress .place)) → ReadsBody text at headed a v r
+  stopped : r .ended ≡ false → 2 ≤ r .progress .code → ((p : Program false) (h : Option (AtomTree false)) → from false text (wants (atom-wanted (literal-in (new-body tt p h)))) v at .answer ≡ refused (r .progress .code) (r .progress .place)) → ReadsBody text at headed a v r
 
 -- ---- from the end of the head on: a fact, or a body behind the head
 
@@ -97,8 +98,31 @@ stoppedRule code place = record { progress = record { code = code; place = place
 abbrev pub goneRule : Rule → ℕ → RuleRead
 goneRule r next = record { progress = record { code = 0; place = noPlace; next = next }; ended = false; rule = r }
 
-abbrev pub endedRule : RuleRead
-endedRule = record { progress = record { code = 0; place = noPlace; next = 0 }; ended = true; rule = noRule }
-
 abbrev pub placedRule : RuleRead → ℕ → RuleRead
 placedRule r start = record { progress = r .progress; ended = r .ended; rule = record { place = between start (r .progress .next); headed = r .rule .headed; head = r .rule .head; body = r .rule .body; count = r .rule .count; variables = r .rule .variables } }
+
+-- ---- the start of a rule, which is the whole of a fact
+
+-- what has been read, where no body follows: a fact, the end of the text, or a refusal
+abbrev pub startedRule : StartRead → RuleRead
+startedRule s = placedRule (record { progress = s .progress; ended = s .ended; rule = headOnly true (s .head) (s .variables) }) (s .start)
+
+-- no body follows, and what has been read is the whole; or one does, in a program, and whatever is read as the body makes the rule
+pub data ReadsStart (ground over : Bool) (text : Bytes) (at : ℕ) (s : StartRead) : Type 0 where
+  whole : s .bodied ≡ false → ReadsRule ground over text at (startedRule s) → ReadsStart ground over text at s
+  opens : s .bodied ≡ true → s .progress .code ≡ 0 → s .ended ≡ false → ground ≡ false → Fits (s .variables) → ((b : RuleRead) → ReadsBody text (s .progress .next) (s .headed) (s .head) (s .variables) b → ReadsRule ground over text at (placedRule b (s .start))) → ReadsStart ground over text at s
+
+abbrev pub stoppedStart : ℕ → Place → StartRead
+stoppedStart code place = record { progress = record { code = code; place = place; next = 0 }; ended = false; bodied = false; headed = false; head = noAtom; variables = noVariables; start = 0 }
+
+abbrev pub endedStart : StartRead
+endedStart = record { progress = record { code = 0; place = noPlace; next = 0 }; ended = true; bodied = false; headed = false; head = noAtom; variables = noVariables; start = 0 }
+
+abbrev pub goneStart : Bool → Bool → Atom → Variables → ℕ → ℕ → StartRead
+goneStart bodied headed head variables start next = record { progress = record { code = 0; place = noPlace; next = next }; ended = false; bodied = bodied; headed = headed; head = head; variables = variables; start = start }
+
+-- from the end of the head on, for a rule that starts at `start`
+pub data StartsHeaded (ground : Bool) (text : Bytes) (at : ℕ) (a : Atom) (v : Variables) (start : ℕ) (s : StartRead) : Type 0 where
+  whole : (next : ℕ) → s ≡ goneStart false true a v start next → ReadsHeaded ground text at a v (goneRule (headOnly true a v) next) → StartsHeaded ground text at a v start s
+  opens : (next : ℕ) → s ≡ goneStart true true a v start next → ground ≡ false → ((b : RuleRead) → ReadsBody text next true a v b → ReadsHeaded ground text at a v b) → StartsHeaded ground text at a v start s
+  stopped : (code : ℕ) (place : Place) → 2 ≤ code → s ≡ stoppedStart code place → ReadsHeaded ground text at a v (stoppedRule code place) → StartsHeaded ground text at a v start s

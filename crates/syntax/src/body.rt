@@ -1,15 +1,12 @@
-// A rule from its head on: a dot, or `:-`, literals separated by commas, and a dot.
+// The body of a rule: literals separated by commas, and a dot.
 ghost use mathlib.Core.Path.{_≡_};
 ghost use Rattle.syntax.specs.Reads.{Fits};
-ghost use Rattle.syntax.specs.Rules.{stoppedRule, goneRule, ReadsBody, ReadsHeaded};
+ghost use Rattle.syntax.specs.Rules.{stoppedRule, goneRule, ReadsBody};
 use crate::literal::literal_at;
 use crate::separator::separator_at;
-use crate::term::WRONG;
 use crate::token::Progress;
-use crate::token::token_at;
 use lexis::Place;
 use lexis::kind::DOT;
-use lexis::kind::IF;
 use rule::Atom;
 use rule::MOST_LITERALS;
 use rule::Rule;
@@ -22,7 +19,7 @@ pub struct RuleRead {
     pub rule: Rule,
 }
 
-pub fn stopped(code: u8, place: Place) -> RuleRead
+fn stopped(code: u8, place: Place) -> RuleRead
     ensures { λ r. ⌜ r ≡ stoppedRule code place ⌝ }
 {
     let rule = Rule::empty();
@@ -80,23 +77,4 @@ pub fn body_at(text: &[u8], at: usize, headed: bool, head: Atom, variables: Vari
         }
         next = further.next;
     }
-}
-
-// The rule whose head ends before `at`: a fact, or a head with a body.
-pub fn headed_at(text: &[u8], at: usize, ground: bool, head: Atom, variables: Variables) -> RuleRead
-    requires { ⌜ Fits variables ⌝ }
-    ensures { λ r. ⌜ ReadsHeaded ground (now (text .entry)) at head variables r ⌝ }
-{
-    let token = token_at(text, at, ground);
-    if token.kind == DOT {
-        return gone(Rule::head_only(true, head, variables), token.next);
-    }
-    let place = token.place;
-    if token.kind != IF {
-        return stopped(WRONG, place);
-    }
-    if ground {
-        return stopped(WRONG, place);
-    }
-    body_at(text, token.next, true, head, variables)
 }

@@ -6,6 +6,7 @@ pub mod builtin;
 pub mod literal;
 pub mod program;
 pub mod separator;
+pub mod start;
 pub mod term;
 pub mod token;
 pub mod variable;

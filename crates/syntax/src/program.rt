@@ -1,37 +1,21 @@
-// The rules of a program, or the facts of a facts line, one after the other.
+// A rule of a program: its start, and its body where one follows.
 ghost use mathlib.Core.Path.{_≡_};
-ghost use Prim.Native.Nat.{_-_};
-ghost use Rattle.grammar.specs.Sizes.{most-rules};
-ghost use Rattle.syntax.specs.Rules.{between, endedRule, placedRule, ReadsRule};
-ghost use Rattle.syntax.specs.Programs.{ReadsRules};
-use crate::atom::atom_at;
+ghost use mathlib.Core.Bool.{Bool, true};
+ghost use Prim.Native.Nat.{ℕ, _-_};
+ghost use Rattle.syntax.specs.Reads.{Fits};
+ghost use Rattle.syntax.specs.Rules.{between, placedRule, ReadsRule, ReadsStart};
 use crate::body::RuleRead;
 use crate::body::body_at;
-use crate::body::headed_at;
-use crate::body::stopped;
-use crate::term::OVER;
-use crate::term::WRONG;
-use crate::token::Progress;
-use crate::token::token_at;
+use crate::start::StartRead;
+use crate::start::start_at;
 use lexis::Place;
-use lexis::kind::END;
-use lexis::kind::IF;
-use rule::Atom;
 use rule::Rule;
-use rule::Variables;
 
 // The most rules of a program.
 pub const MOST_RULES: usize = 256;
 
 // The most facts of a candidate.
 pub const MOST_FACTS: usize = 1024;
-
-// All rules of a text: their number; or the refusal and its place.
-pub struct RulesRead {
-    pub code: u8,
-    pub place: Place,
-    pub count: usize,
-}
 
 // The part from a start to an end; empty where the end is not behind the start.
 fn between(start: usize, end: usize) -> Place
@@ -43,21 +27,6 @@ fn between(start: usize, end: usize) -> Place
     Place {
         start,
         len: end - start,
-    }
-}
-
-fn ended() -> RuleRead
-    ensures { λ r. ⌜ r ≡ endedRule ⌝ }
-{
-    let rule = Rule::empty();
-    RuleRead {
-        progress: Progress {
-            code: 0,
-            place: Place { start: 0, len: 0 },
-            next: 0,
-        },
-        ended: true,
-        rule,
     }
 }
 
@@ -76,76 +45,30 @@ fn placed(read: RuleRead, start: usize) -> RuleRead
     }
 }
 
+// The rule whose start has been read: with its body, where one follows.
+pub fn rule_from(text: &[u8], start: StartRead) -> RuleRead
+    requires { ⌜ (start .bodied ≡ true → Fits (start .variables)) ⌝ }
+    ensures { λ r. ⌜ ((ground over : Bool) (at : ℕ) → ReadsStart ground over (now (text .entry)) at start → ReadsRule ground over (now (text .entry)) at r) ⌝ }
+{
+    let progress = start.progress;
+    let head = start.head;
+    let variables = start.variables;
+    if start.bodied {
+        let read = body_at(text, progress.next, start.headed, head, variables);
+        return placed(read, start.start);
+    }
+    let read = RuleRead {
+        progress,
+        ended: start.ended,
+        rule: Rule::head_only(true, head, variables),
+    };
+    placed(read, start.start)
+}
+
 // The rule, or the fact where `ground`, at a place, with its dot. `over`: it is one too many.
 pub fn rule_at(text: &[u8], at: usize, ground: bool, over: bool) -> RuleRead
     ensures { λ r. ⌜ ReadsRule ground over (now (text .entry)) at r ⌝ }
 {
-    let token = token_at(text, at, ground);
-    if token.kind == END {
-        return ended();
-    }
-    let place = token.place;
-    let none = Variables::empty();
-    if token.kind == IF {
-        if ground {
-            return stopped(WRONG, place);
-        }
-        if over {
-            return stopped(OVER, place);
-        }
-        let head = Atom::empty();
-        return placed(body_at(text, token.next, false, head, none), place.start);
-    }
-    let read = atom_at(text, at, ground, over, none);
-    let progress = read.progress;
-    if progress.code != 0 {
-        let fault = progress.place;
-        return stopped(progress.code, fault);
-    }
-    let head = read.atom;
-    let met = read.variables;
-    placed(
-        headed_at(text, progress.next, ground, head, met),
-        place.start,
-    )
-}
-
-// The most rules, or facts where `ground`, that a text may have.
-fn most_rules(ground: bool) -> usize
-    ensures { λ r. ⌜ r ≡ most-rules ground ⌝ }
-{
-    if ground {
-        return MOST_FACTS;
-    }
-    MOST_RULES
-}
-
-// All rules of a program, or all facts of a facts line where `ground`.
-pub fn read_rules(text: &[u8], ground: bool) -> RulesRead
-    ensures { λ r. ⌜ ReadsRules ground (now (text .entry)) r ⌝ }
-{
-    let most = most_rules(ground);
-    let mut at = 0;
-    let mut count = 0;
-    loop {
-        let read = rule_at(text, at, ground, most <= count);
-        let progress = read.progress;
-        let place = progress.place;
-        if progress.code != 0 {
-            return RulesRead {
-                code: progress.code,
-                place,
-                count: 0,
-            };
-        }
-        if read.ended {
-            return RulesRead {
-                code: 0,
-                place: Place { start: 0, len: 0 },
-                count,
-            };
-        }
-        count += 1;
-        at = progress.next;
-    }
+    let start = start_at(text, at, ground, over);
+    rule_from(text, start)
 }

@@ -8,6 +8,7 @@ use lib.ListN.{length}
 use Rattle.reading.specs.Reading.{tree}
 use Rattle.grammar.specs.Trees.{Program}
 use Rattle.syntax.specs.Programs.{ReadAs}
+use Rattle.syntax.proofs.Rules.{ground-whole}
 use Rattle.factrows.proofs.Loop.{line-read, Going, starts, filled, goes-on, storable, stored-on}
 use borrow.Author.Needs.{needs}
 use Rattle.factrows.proofs.fill_facts.Statement.{statement}
@@ -28,8 +29,8 @@ bytes-at-requires c κs = search needs
 loop-holds : tie.Need-loop-holds Inv-loop μ-loop
 loop-holds c = (refl, (λ p r. starts _ _ _ p _ _ _ (c .before .before .before .before .before .before .before .pre .room) r))
 
-rule-at-requires : tie.Need-rule-at-requires Inv-loop μ-loop
-rule-at-requires c κs = search needs
+start-at-requires : tie.Need-start-at-requires Inv-loop μ-loop
+start-at-requires c κs = search needs
 
 same-length : tie.Need-same-length Inv-loop μ-loop
 same-length c = c .before .before .loop .inv .0
@@ -41,42 +42,42 @@ same-length-3 : tie.Need-same-length-3 Inv-loop μ-loop
 same-length-3 c = c .before .before .loop .inv .1 (c .before .before .before .before .before .before .before .before .before .before .pre .tree-of) (line-read _ _ (c .before .before .before .before .before .before .before .before .before .before .args .line) _ (c .before .before .before .bytes-at .ensures) _ (c .before .before .before .before .before .before .before .before .before .before .pre .read)) .predicates-kept .long
 
 returns : tie.Need-returns Inv-loop μ-loop
-returns c = λ p r. filled _ _ _ p _ _ _ (c .before .before .loop .inv .1 p (line-read _ _ (c .before .before .before .before .before .before .before .before .before .before .args .line) _ (c .before .before .before .bytes-at .ensures) p r)) _ (c .before .rule-at .ensures) (c .if1 .taken) (c .before .before .before .before .before .before .before .before .before .before .pre .facts-long)
+returns c = λ p r. filled _ _ _ p _ _ _ (c .before .before .loop .inv .1 p (line-read _ _ (c .before .before .before .before .before .before .before .before .before .before .args .line) _ (c .before .before .before .bytes-at .ensures) p r)) _ (ground-whole _ _ _ _ (c .before .start-at .ensures)) (c .if1 .taken) (c .before .before .before .before .before .before .before .before .before .before .pre .facts-long)
 
 put-fact-requires : tie.Need-put-fact-requires Inv-loop μ-loop
 put-fact-requires c κs =
-    let w = line-read _ _ (c .before .before .before .before .before .before .before .before .before .before .before .before .before .before .before .args .line) _ (c .before .before .before .before .before .before .before .before .bytes-at .ensures) _ (c .before .before .before .before .before .before .before .before .before .before .before .before .before .before .before .pre .read) in
-    storable _ _ _ (c .before .before .before .before .before .before .before .before .before .before .before .before .before .before .before .pre .tree-of) _ _ _ (c .before .before .before .before .before .before .before .loop .inv .1 (c .before .before .before .before .before .before .before .before .before .before .before .before .before .before .before .pre .tree-of) w) _ (c .before .before .before .before .before .before .rule-at .ensures) _ (c .before .before .before .before .before .before .before .before .bytes-at .ensures) (c .before .before .before .before .before .before .before .before .before .before .before .before .before .before .before .pre .room) (c .before .before .before .before .before .before .before .before .before .before .before .before .before .before .before .pre .facts-long) w (c .before .before .before .before .before .if1 .left)
+    let w = line-read _ _ (c .before .before .before .before .before .before .before .before .before .before .before .before .before .before .args .line) _ (c .before .before .before .before .before .before .before .bytes-at .ensures) _ (c .before .before .before .before .before .before .before .before .before .before .before .before .before .before .pre .read) in
+    storable _ _ _ (c .before .before .before .before .before .before .before .before .before .before .before .before .before .before .pre .tree-of) _ _ _ (c .before .before .before .before .before .before .loop .inv .1 (c .before .before .before .before .before .before .before .before .before .before .before .before .before .before .pre .tree-of) w) _ (ground-whole _ _ _ _ (c .before .before .before .before .before .start-at .ensures)) _ (c .before .before .before .before .before .before .before .bytes-at .ensures) (c .before .before .before .before .before .before .before .before .before .before .before .before .before .before .pre .room) (c .before .before .before .before .before .before .before .before .before .before .before .before .before .before .pre .facts-long) w (c .before .before .before .before .if1 .left)
 
 mul-predicates : tie.Need-mul-predicates Inv-loop μ-loop
 mul-predicates c =
-    let w = line-read _ _ (c .before .before .before .before .before .before .before .before .before .before .before .before .before .before .before .before .before .before .before .before .args .line) _ (c .before .before .before .before .before .before .before .before .before .before .before .before .before .bytes-at .ensures) _ (c .before .before .before .before .before .before .before .before .before .before .before .before .before .before .before .before .before .before .before .before .pre .read) in
-    let m = goes-on _ _ _ (c .before .before .before .before .before .before .before .before .before .before .before .before .before .before .before .before .before .before .before .before .pre .tree-of) _ _ _ (c .before .before .before .before .before .before .before .before .before .before .before .before .loop .inv .1 (c .before .before .before .before .before .before .before .before .before .before .before .before .before .before .before .before .before .before .before .before .pre .tree-of) w) _ (c .before .before .before .before .before .before .before .before .before .before .before .rule-at .ensures) (c .before .before .before .before .before .before .before .before .before .before .if1 .left) .more in
+    let w = line-read _ _ (c .before .before .before .before .before .before .before .before .before .before .before .before .before .before .before .before .before .before .before .args .line) _ (c .before .before .before .before .before .before .before .before .before .before .before .before .bytes-at .ensures) _ (c .before .before .before .before .before .before .before .before .before .before .before .before .before .before .before .before .before .before .before .pre .read) in
+    let m = goes-on _ _ _ (c .before .before .before .before .before .before .before .before .before .before .before .before .before .before .before .before .before .before .before .pre .tree-of) _ _ _ (c .before .before .before .before .before .before .before .before .before .before .before .loop .inv .1 (c .before .before .before .before .before .before .before .before .before .before .before .before .before .before .before .before .before .before .before .pre .tree-of) w) _ (ground-whole _ _ _ _ (c .before .before .before .before .before .before .before .before .before .before .start-at .ensures)) (c .before .before .before .before .before .before .before .before .before .if1 .left) .more in
     omega arith
 
 slice-write-predicates : tie.Need-slice-write-predicates Inv-loop μ-loop
 slice-write-predicates c =
-    let w = line-read _ _ (c .before .before .before .before .before .before .before .before .before .before .before .before .before .before .before .before .before .before .before .before .args .line) _ (c .before .before .before .before .before .before .before .before .before .before .before .before .before .bytes-at .ensures) _ (c .before .before .before .before .before .before .before .before .before .before .before .before .before .before .before .before .before .before .before .before .pre .read) in
-    let g = c .before .before .before .before .before .before .before .before .before .before .before .before .loop .inv .1 (c .before .before .before .before .before .before .before .before .before .before .before .before .before .before .before .before .before .before .before .before .pre .tree-of) w in
-    let m = goes-on _ _ _ (c .before .before .before .before .before .before .before .before .before .before .before .before .before .before .before .before .before .before .before .before .pre .tree-of) _ _ _ g _ (c .before .before .before .before .before .before .before .before .before .before .before .rule-at .ensures) (c .before .before .before .before .before .before .before .before .before .before .if1 .left) .more in
+    let w = line-read _ _ (c .before .before .before .before .before .before .before .before .before .before .before .before .before .before .before .before .before .before .before .args .line) _ (c .before .before .before .before .before .before .before .before .before .before .before .before .bytes-at .ensures) _ (c .before .before .before .before .before .before .before .before .before .before .before .before .before .before .before .before .before .before .before .pre .read) in
+    let g = c .before .before .before .before .before .before .before .before .before .before .before .loop .inv .1 (c .before .before .before .before .before .before .before .before .before .before .before .before .before .before .before .before .before .before .before .pre .tree-of) w in
+    let m = goes-on _ _ _ (c .before .before .before .before .before .before .before .before .before .before .before .before .before .before .before .before .before .before .before .pre .tree-of) _ _ _ g _ (ground-whole _ _ _ _ (c .before .before .before .before .before .before .before .before .before .before .start-at .ensures)) (c .before .before .before .before .before .before .before .before .before .if1 .left) .more in
     let l = g .predicates-kept .long in
-    let k = c .before .before .before .before .before .before .before .before .before .before .before .before .before .before .before .before .before .before .before .before .pre .predicates-long in
+    let k = c .before .before .before .before .before .before .before .before .before .before .before .before .before .before .before .before .before .before .before .pre .predicates-long in
     omega arith
 
 add-count : tie.Need-add-count Inv-loop μ-loop
 add-count c =
-    let w = line-read _ _ (c .before .before .before .before .before .before .before .before .before .before .before .before .before .before .before .before .before .before .before .before .args .line) _ (c .before .before .before .before .before .before .before .before .before .before .before .before .before .bytes-at .ensures) _ (c .before .before .before .before .before .before .before .before .before .before .before .before .before .before .before .before .before .before .before .before .pre .read) in
-    let m = goes-on _ _ _ (c .before .before .before .before .before .before .before .before .before .before .before .before .before .before .before .before .before .before .before .before .pre .tree-of) _ _ _ (c .before .before .before .before .before .before .before .before .before .before .before .before .loop .inv .1 (c .before .before .before .before .before .before .before .before .before .before .before .before .before .before .before .before .before .before .before .before .pre .tree-of) w) _ (c .before .before .before .before .before .before .before .before .before .before .before .rule-at .ensures) (c .before .before .before .before .before .before .before .before .before .before .if1 .left) .more in
+    let w = line-read _ _ (c .before .before .before .before .before .before .before .before .before .before .before .before .before .before .before .before .before .before .before .args .line) _ (c .before .before .before .before .before .before .before .before .before .before .before .before .bytes-at .ensures) _ (c .before .before .before .before .before .before .before .before .before .before .before .before .before .before .before .before .before .before .before .pre .read) in
+    let m = goes-on _ _ _ (c .before .before .before .before .before .before .before .before .before .before .before .before .before .before .before .before .before .before .before .pre .tree-of) _ _ _ (c .before .before .before .before .before .before .before .before .before .before .before .loop .inv .1 (c .before .before .before .before .before .before .before .before .before .before .before .before .before .before .before .before .before .before .before .pre .tree-of) w) _ (ground-whole _ _ _ _ (c .before .before .before .before .before .before .before .before .before .before .start-at .ensures)) (c .before .before .before .before .before .before .before .before .before .if1 .left) .more in
     omega arith
 
 loop-less : tie.Need-loop-less Inv-loop μ-loop
 loop-less c =
-    let w = line-read _ _ (c .before .before .before .before .before .before .before .before .before .before .before .before .before .before .before .before .before .before .before .before .args .line) _ (c .before .before .before .before .before .before .before .before .before .before .before .before .before .bytes-at .ensures) _ (c .before .before .before .before .before .before .before .before .before .before .before .before .before .before .before .before .before .before .before .before .pre .read) in
-    let m = goes-on _ _ _ (c .before .before .before .before .before .before .before .before .before .before .before .before .before .before .before .before .before .before .before .before .pre .tree-of) _ _ _ (c .before .before .before .before .before .before .before .before .before .before .before .before .loop .inv .1 (c .before .before .before .before .before .before .before .before .before .before .before .before .before .before .before .before .before .before .before .before .pre .tree-of) w) _ (c .before .before .before .before .before .before .before .before .before .before .before .rule-at .ensures) (c .before .before .before .before .before .before .before .before .before .before .if1 .left) .more in
+    let w = line-read _ _ (c .before .before .before .before .before .before .before .before .before .before .before .before .before .before .before .before .before .before .before .args .line) _ (c .before .before .before .before .before .before .before .before .before .before .before .before .bytes-at .ensures) _ (c .before .before .before .before .before .before .before .before .before .before .before .before .before .before .before .before .before .before .before .pre .read) in
+    let m = goes-on _ _ _ (c .before .before .before .before .before .before .before .before .before .before .before .before .before .before .before .before .before .before .before .pre .tree-of) _ _ _ (c .before .before .before .before .before .before .before .before .before .before .before .loop .inv .1 (c .before .before .before .before .before .before .before .before .before .before .before .before .before .before .before .before .before .before .before .pre .tree-of) w) _ (ground-whole _ _ _ _ (c .before .before .before .before .before .before .before .before .before .before .start-at .ensures)) (c .before .before .before .before .before .before .before .before .before .if1 .left) .more in
     omega arith
 
 loop-again : tie.Need-loop-again Inv-loop μ-loop
-loop-again c = ((search needs), (λ p r. stored-on _ _ _ p _ _ _ (c .before .before .before .before .before .before .before .before .before .before .before .before .loop .inv .1 p r) _ (c .before .before .before .before .before .before .before .before .before .before .before .rule-at .ensures) (c .before .before .before .before .before .before .before .before .before .before .if1 .left) _ (c .before .before .before .before .before .before .before .before .before .before .before .before .before .bytes-at .ensures) _ _ _ (c .before .before .before .before .put-fact .ensures) (c .before .before .before .before .before .before .before .before .before .before .before .before .before .before .before .before .before .before .before .before .pre .predicates-long)))
+loop-again c = ((search needs), (λ p r. stored-on _ _ _ p _ _ _ (c .before .before .before .before .before .before .before .before .before .before .before .loop .inv .1 p r) _ (ground-whole _ _ _ _ (c .before .before .before .before .before .before .before .before .before .before .start-at .ensures)) (c .before .before .before .before .before .before .before .before .before .if1 .left) _ (c .before .before .before .before .before .before .before .before .before .before .before .before .bytes-at .ensures) _ _ _ (c .before .before .before .before .put-fact .ensures) (c .before .before .before .before .before .before .before .before .before .before .before .before .before .before .before .before .before .before .before .pre .predicates-long)))
 
 pub fill-facts-spec : {M : Type 1} → statement M
 fill-facts-spec =
@@ -87,7 +88,7 @@ fill-facts-spec =
     add-start
     bytes-at-requires
     loop-holds
-    rule-at-requires
+    start-at-requires
     same-length
     same-length-2
     same-length-3

@@ -8,36 +8,36 @@ use Rattle.output.proofs.read_facts.Tie as tie
 add-end : tie.Need-add-end
 add-end c = search needs
 
-sub-read-rules : tie.Need-sub-read-rules
-sub-read-rules c = search needs
+sub-read-line : tie.Need-sub-read-line
+sub-read-line c = search needs
 
-part-read-rules-start : tie.Need-part-read-rules-start
-part-read-rules-start c = search needs
+part-read-line-start : tie.Need-part-read-line-start
+part-read-line-start c = search needs
 
-part-read-rules-end : tie.Need-part-read-rules-end
-part-read-rules-end c = search needs
+part-read-line-end : tie.Need-part-read-line-end
+part-read-line-end c = search needs
 
-read-rules-requires : tie.Need-read-rules-requires
-read-rules-requires c κs = search needs
+read-line-requires : tie.Need-read-line-requires
+read-line-requires c κs = search needs
 
 returns : tie.Need-returns
-returns c = facts-whole (c .before .before .before .before .before .before .args .output .now) (c .before .before .before .before .before .before .args .line) (c .before .before .before .before .before .before .pre) _ (c .before .before .read-rules .ensures) (c .if1 .taken)
+returns c = facts-whole (c .before .before .before .before .before .before .args .output .now) (c .before .before .before .before .before .before .args .line) (c .before .before .before .before .before .before .pre) _ (c .before .before .read-line .ensures) (c .if1 .taken)
 
 add-t8 : tie.Need-add-t8
-add-t8 c = omega (arith, fault-inside (c .before .before .before .before .before .before .before .before .args .output .now) (c .before .before .before .before .before .before .before .before .args .line) (c .before .before .before .before .before .before .before .before .pre) _ (c .before .before .before .before .read-rules .ensures) (c .before .before .if1 .left))
+add-t8 c = omega (arith, fault-inside (c .before .before .before .before .before .before .before .before .args .output .now) (c .before .before .before .before .before .before .before .before .args .line) (c .before .before .before .before .before .before .before .before .pre) _ (c .before .before .before .before .read-line .ensures) (c .before .before .if1 .left))
 
 returns-2 : tie.Need-returns-2
-returns-2 c = facts-refused (c .before .before .before .before .before .before .before .before .args .output .now) (c .before .before .before .before .before .before .before .before .args .line) (c .before .before .before .before .before .before .before .before .pre) _ (c .before .before .before .before .read-rules .ensures) (c .before .before .if1 .left)
+returns-2 c = facts-refused (c .before .before .before .before .before .before .before .before .args .output .now) (c .before .before .before .before .before .before .before .before .args .line) (c .before .before .before .before .before .before .before .before .pre) _ (c .before .before .before .before .read-line .ensures) (c .before .before .if1 .left)
 
 pub read-facts-spec : {M : Type 1} → statement M
 read-facts-spec =
     tie.close
     (tie.spec
     add-end
-    sub-read-rules
-    part-read-rules-start
-    part-read-rules-end
-    read-rules-requires
+    sub-read-line
+    part-read-line-start
+    part-read-line-end
+    read-line-requires
     returns
     add-t8
     returns-2)

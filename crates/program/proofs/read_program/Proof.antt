@@ -2,7 +2,7 @@
 -- of refusal 5 among their tokens. The measure is how many more rules there may be. Assumes nothing.
 use Prim.Native.Nat.{_-_}
 use native.Mathlib.Omega.{arith}
-use Rattle.program.proofs.Loop.{Going, starts, over-size, stops-there, at-end, room, its-numbers, goes-on}
+use Rattle.program.proofs.Loop.{Going, starts, over-size, stops-there, at-end, room, goes-on}
 use borrow.Author.Needs.{needs}
 use Rattle.program.proofs.read_program.Statement.{statement}
 use Rattle.program.proofs.read_program.Tie as tie
@@ -26,8 +26,8 @@ loop-holds : tie.Need-loop-holds Inv-loop μ-loop
 loop-holds c = starts (c .before .before .args .text .now)
 
 -- src/lib.rt:81:13
-rule-at-requires : tie.Need-rule-at-requires Inv-loop μ-loop
-rule-at-requires c κs = search needs
+look-at-requires : tie.Need-look-at-requires Inv-loop μ-loop
+look-at-requires c κs = search needs
 
 -- src/lib.rt:85:13
 refused-requires-2 : tie.Need-refused-requires-2 Inv-loop μ-loop
@@ -35,7 +35,7 @@ refused-requires-2 c κs = search needs
 
 -- src/lib.rt:85:13
 returns-2 : tie.Need-returns-2 Inv-loop μ-loop
-returns-2 c = stops-there (c .before .before .before .before .before .before .before .before .before .args .text .now) (c .before .before .before .before .before .before .before .if1 .left) _ _ _ (c .before .before .before .before .before .before .loop .inv) _ (c .before .before .before .before .before .rule-at .ensures) (c .before .if2 .taken) _ (c .refused2 .ensures)
+returns-2 c = stops-there (c .before .before .before .before .before .before .before .before .before .args .text .now) (c .before .before .before .before .before .before .before .if1 .left) _ _ _ (c .before .before .before .before .before .before .loop .inv) _ (c .before .before .before .before .before .look-at .ensures .reads) (c .before .if2 .taken) _ (c .refused2 .ensures)
 
 -- src/lib.rt:88:13
 finished-requires : tie.Need-finished-requires Inv-loop μ-loop
@@ -43,23 +43,23 @@ finished-requires c κs = search needs
 
 -- src/lib.rt:88:13
 returns-3 : tie.Need-returns-3 Inv-loop μ-loop
-returns-3 c = at-end (c .before .before .before .before .before .before .before .before .before .before .args .text .now) (c .before .before .before .before .before .before .before .before .if1 .left) _ _ _ (c .before .before .before .before .before .before .before .loop .inv) _ (c .before .before .before .before .before .before .rule-at .ensures) (c .before .before .if2 .left) (c .before .if3 .taken) _ (c .finished .ensures)
+returns-3 c = at-end (c .before .before .before .before .before .before .before .before .before .before .args .text .now) (c .before .before .before .before .before .before .before .before .if1 .left) _ _ _ (c .before .before .before .before .before .before .before .loop .inv) _ (c .before .before .before .before .before .before .look-at .ensures .reads) (c .before .before .if2 .left) (c .before .if3 .taken) _ (c .finished .ensures)
 
 -- src/lib.rt:91:9
 earlier-requires : tie.Need-earlier-requires Inv-loop μ-loop
-earlier-requires c κs = its-numbers (c .before .before .before .before .before .before .before .before .before .before .args .text .now) (c .before .before .before .before .before .before .before .before .if1 .left) _ _ _ (c .before .before .before .before .before .before .before .loop .inv) _ (c .before .before .before .before .before .before .rule-at .ensures) (c .before .before .if2 .left) (c .before .if3 .left)
+earlier-requires c κs = search needs
 
 -- src/lib.rt:93:9
 add-count : tie.Need-add-count Inv-loop μ-loop
-add-count c = omega (arith, room (c .before .before .before .before .before .before .before .before .before .before .before .args .text .now) (c .before .before .before .before .before .before .before .before .before .if1 .left) _ _ _ (c .before .before .before .before .before .before .before .before .loop .inv) _ (c .before .before .before .before .before .before .before .rule-at .ensures) (c .before .before .before .if2 .left) (c .before .before .if3 .left))
+add-count c = omega (arith, room (c .before .before .before .before .before .before .before .before .before .before .before .args .text .now) (c .before .before .before .before .before .before .before .before .before .if1 .left) _ _ _ (c .before .before .before .before .before .before .before .before .loop .inv) _ (c .before .before .before .before .before .before .before .look-at .ensures .reads) (c .before .before .before .if2 .left) (c .before .before .if3 .left))
 
 -- src/lib.rt:80:5
 loop-less : tie.Need-loop-less Inv-loop μ-loop
-loop-less c = omega (arith, room (c .before .before .before .before .before .before .before .before .before .before .before .args .text .now) (c .before .before .before .before .before .before .before .before .before .if1 .left) _ _ _ (c .before .before .before .before .before .before .before .before .loop .inv) _ (c .before .before .before .before .before .before .before .rule-at .ensures) (c .before .before .before .if2 .left) (c .before .before .if3 .left))
+loop-less c = omega (arith, room (c .before .before .before .before .before .before .before .before .before .before .before .args .text .now) (c .before .before .before .before .before .before .before .before .before .if1 .left) _ _ _ (c .before .before .before .before .before .before .before .before .loop .inv) _ (c .before .before .before .before .before .before .before .look-at .ensures .reads) (c .before .before .before .if2 .left) (c .before .before .if3 .left))
 
 -- src/lib.rt:80:5
 loop-again : tie.Need-loop-again Inv-loop μ-loop
-loop-again c = goes-on (c .before .before .before .before .before .before .before .before .before .before .before .args .text .now) (c .before .before .before .before .before .before .before .before .before .if1 .left) _ _ _ (c .before .before .before .before .before .before .before .before .loop .inv) _ (c .before .before .before .before .before .before .before .rule-at .ensures) (c .before .before .before .if2 .left) (c .before .before .if3 .left) _ (c .earlier .ensures)
+loop-again c = goes-on (c .before .before .before .before .before .before .before .before .before .before .before .args .text .now) (c .before .before .before .before .before .before .before .before .before .if1 .left) _ _ _ (c .before .before .before .before .before .before .before .before .loop .inv) _ (c .before .before .before .before .before .before .before .look-at .ensures .reads) (c .before .before .before .if2 .left) (c .before .before .if3 .left) _ (c .before .before .before .before .before .before .before .look-at .ensures .unbound (c .before .before .before .if2 .left) (c .before .before .if3 .left)) _ (c .earlier .ensures)
 
 pub read-program-spec : {M : Type 1} → statement M
 read-program-spec =
@@ -70,7 +70,7 @@ read-program-spec =
     refused-requires
     returns
     loop-holds
-    rule-at-requires
+    look-at-requires
     refused-requires-2
     returns-2
     finished-requires

@@ -12,6 +12,8 @@ use Rattle.grammar.specs.Trees.{Program}
 use Rattle.grammar.specs.Abstraction.{rules-for}
 use Rattle.syntax.specs.Programs.{ReadAs}
 use Rattle.filling.proofs.Filled.{Filling, filling-start, filled-whole, filling-room, filling-storable, filling-on}
+use Rattle.syntax.proofs.Rules.{bodied-fits}
+use Rattle.filling.proofs.Started.{ended-reads, made-reads, made-going}
 use borrow.Author.Needs.{needs}
 use Rattle.filling.proofs.rules.fill_rules.Statement.{statement}
 use Rattle.filling.proofs.rules.fill_rules.Tie as tie
@@ -29,8 +31,8 @@ abbrev μ-loop : tie.MeasureT-loop
 loop-holds : tie.Need-loop-holds Inv-loop μ-loop
 loop-holds c = ((λ p r s. filling-start (c .before .before .before .before .before .args .program .now) (c .before .before .before .before .before .args .output .now) (c .before .before .before .before .before .args .names .now) (c .before .before .before .before .before .args .rules .now) (c .before .before .before .before .before .args .literals .now) (c .before .before .before .before .before .pre) p r), refl, refl, refl)
 
-rule-at-requires : tie.Need-rule-at-requires Inv-loop μ-loop
-rule-at-requires c κs = search needs
+start-at-requires : tie.Need-start-at-requires Inv-loop μ-loop
+start-at-requires c κs = search needs
 
 same-length : tie.Need-same-length Inv-loop μ-loop
 same-length c = c .before .before .loop .inv .1
@@ -42,19 +44,19 @@ same-length-3 : tie.Need-same-length-3 Inv-loop μ-loop
 same-length-3 c = c .before .before .loop .inv .3
 
 returns : tie.Need-returns Inv-loop μ-loop
-returns c = λ p r s. filled-whole (c .before .before .before .before .before .before .before .before .args .program .now) (c .before .before .before .before .before .before .before .before .args .output .now) (c .before .before .before .before .before .before .before .before .args .names .now) (c .before .before .before .before .before .before .before .before .args .rules .now) (c .before .before .before .before .before .before .before .before .args .literals .now) (c .before .before .before .before .before .before .before .before .pre) p r s (c .before .before .loop .names) (c .before .before .loop .rules) (c .before .before .loop .literals) (c .before .before .loop .at) (c .before .before .loop .count) (c .before .before .loop .inv .0 p r s) _ (c .before .rule-at .ensures) (c .if1 .taken)
+returns c = λ p r s. filled-whole (c .before .before .before .before .before .before .before .before .args .program .now) (c .before .before .before .before .before .before .before .before .args .output .now) (c .before .before .before .before .before .before .before .before .args .names .now) (c .before .before .before .before .before .before .before .before .args .rules .now) (c .before .before .before .before .before .before .before .before .args .literals .now) (c .before .before .before .before .before .before .before .before .pre) p r s (c .before .before .loop .names) (c .before .before .loop .rules) (c .before .before .loop .literals) (c .before .before .loop .at) (c .before .before .loop .count) (c .before .before .loop .inv .0 p r s) _ (ended-reads (c .before .start-at .ensures) (c .if1 .taken)) (c .if1 .taken)
 
-put-rule-requires : tie.Need-put-rule-requires Inv-loop μ-loop
-put-rule-requires c κs = filling-storable (c .before .before .before .before .before .before .before .before .before .before .before .before .args .program .now) (c .before .before .before .before .before .before .before .before .before .before .before .before .args .output .now) (c .before .before .before .before .before .before .before .before .before .before .before .before .args .names .now) (c .before .before .before .before .before .before .before .before .before .before .before .before .args .rules .now) (c .before .before .before .before .before .before .before .before .before .before .before .before .args .literals .now) (c .before .before .before .before .before .before .before .before .before .before .before .before .pre) (c .before .before .before .before .before .before .before .before .before .before .before .before .pre .rules-of-it) (c .before .before .before .before .before .before .before .before .before .before .before .before .pre .read) (c .before .before .before .before .before .before .before .before .before .before .before .before .pre .are-safe) (c .before .before .before .before .before .before .loop .names) (c .before .before .before .before .before .before .loop .rules) (c .before .before .before .before .before .before .loop .literals) (c .before .before .before .before .before .before .loop .at) (c .before .before .before .before .before .before .loop .count) (c .before .before .before .before .before .before .loop .inv .0 (c .before .before .before .before .before .before .before .before .before .before .before .before .pre .rules-of-it) (c .before .before .before .before .before .before .before .before .before .before .before .before .pre .read) (c .before .before .before .before .before .before .before .before .before .before .before .before .pre .are-safe)) _ (c .before .before .before .before .before .rule-at .ensures) (c .before .before .before .before .if1 .left)
+put-started-requires : tie.Need-put-started-requires Inv-loop μ-loop
+put-started-requires c κs = ((λ r m. filling-storable (c .before .before .before .before .before .before .before .before .before .before .before .args .program .now) (c .before .before .before .before .before .before .before .before .before .before .before .args .output .now) (c .before .before .before .before .before .before .before .before .before .before .before .args .names .now) (c .before .before .before .before .before .before .before .before .before .before .before .args .rules .now) (c .before .before .before .before .before .before .before .before .before .before .before .args .literals .now) (c .before .before .before .before .before .before .before .before .before .before .before .pre) (c .before .before .before .before .before .before .before .before .before .before .before .pre .rules-of-it) (c .before .before .before .before .before .before .before .before .before .before .before .pre .read) (c .before .before .before .before .before .before .before .before .before .before .before .pre .are-safe) (c .before .before .before .before .before .loop .names) (c .before .before .before .before .before .loop .rules) (c .before .before .before .before .before .loop .literals) (c .before .before .before .before .before .loop .at) (c .before .before .before .before .before .loop .count) (c .before .before .before .before .before .loop .inv .0 (c .before .before .before .before .before .before .before .before .before .before .before .pre .rules-of-it) (c .before .before .before .before .before .before .before .before .before .before .before .pre .read) (c .before .before .before .before .before .before .before .before .before .before .before .pre .are-safe)) r (made-reads (c .before .before .before .before .start-at .ensures) m) (made-going (c .before .before .before .before .start-at .ensures) (c .before .before .before .if1 .left) m)), bodied-fits _ _ _ _ _ (c .before .before .before .before .start-at .ensures))
 
 add-count : tie.Need-add-count Inv-loop μ-loop
-add-count c = omega (arith, filling-room (c .before .before .before .before .before .before .before .before .before .before .before .before .before .before .before .before .before .before .before .args .program .now) (c .before .before .before .before .before .before .before .before .before .before .before .before .before .before .before .before .before .before .before .args .output .now) (c .before .before .before .before .before .before .before .before .before .before .before .before .before .before .before .before .before .before .before .args .names .now) (c .before .before .before .before .before .before .before .before .before .before .before .before .before .before .before .before .before .before .before .args .rules .now) (c .before .before .before .before .before .before .before .before .before .before .before .before .before .before .before .before .before .before .before .args .literals .now) (c .before .before .before .before .before .before .before .before .before .before .before .before .before .before .before .before .before .before .before .pre) (c .before .before .before .before .before .before .before .before .before .before .before .before .before .before .before .before .before .before .before .pre .rules-of-it) (c .before .before .before .before .before .before .before .before .before .before .before .before .before .before .before .before .before .before .before .pre .read) (c .before .before .before .before .before .before .before .before .before .before .before .before .before .before .before .before .before .before .before .pre .are-safe) (c .before .before .before .before .before .before .before .before .before .before .before .before .before .loop .names) (c .before .before .before .before .before .before .before .before .before .before .before .before .before .loop .rules) (c .before .before .before .before .before .before .before .before .before .before .before .before .before .loop .literals) (c .before .before .before .before .before .before .before .before .before .before .before .before .before .loop .at) (c .before .before .before .before .before .before .before .before .before .before .before .before .before .loop .count) (c .before .before .before .before .before .before .before .before .before .before .before .before .before .loop .inv .0 (c .before .before .before .before .before .before .before .before .before .before .before .before .before .before .before .before .before .before .before .pre .rules-of-it) (c .before .before .before .before .before .before .before .before .before .before .before .before .before .before .before .before .before .before .before .pre .read) (c .before .before .before .before .before .before .before .before .before .before .before .before .before .before .before .before .before .before .before .pre .are-safe)) _ (c .before .before .before .before .before .before .before .before .before .before .before .before .rule-at .ensures) (c .before .before .before .before .before .before .before .before .before .before .before .if1 .left))
+add-count c = omega (arith, filling-room (c .before .before .before .before .before .before .before .before .before .before .before .before .before .before .before .before .before .before .args .program .now) (c .before .before .before .before .before .before .before .before .before .before .before .before .before .before .before .before .before .before .args .output .now) (c .before .before .before .before .before .before .before .before .before .before .before .before .before .before .before .before .before .before .args .names .now) (c .before .before .before .before .before .before .before .before .before .before .before .before .before .before .before .before .before .before .args .rules .now) (c .before .before .before .before .before .before .before .before .before .before .before .before .before .before .before .before .before .before .args .literals .now) (c .before .before .before .before .before .before .before .before .before .before .before .before .before .before .before .before .before .before .pre) (c .before .before .before .before .before .before .before .before .before .before .before .before .before .before .before .before .before .before .pre .rules-of-it) (c .before .before .before .before .before .before .before .before .before .before .before .before .before .before .before .before .before .before .pre .read) (c .before .before .before .before .before .before .before .before .before .before .before .before .before .before .before .before .before .before .pre .are-safe) (c .before .before .before .before .before .before .before .before .before .before .before .before .loop .names) (c .before .before .before .before .before .before .before .before .before .before .before .before .loop .rules) (c .before .before .before .before .before .before .before .before .before .before .before .before .loop .literals) (c .before .before .before .before .before .before .before .before .before .before .before .before .loop .at) (c .before .before .before .before .before .before .before .before .before .before .before .before .loop .count) (c .before .before .before .before .before .before .before .before .before .before .before .before .loop .inv .0 (c .before .before .before .before .before .before .before .before .before .before .before .before .before .before .before .before .before .before .pre .rules-of-it) (c .before .before .before .before .before .before .before .before .before .before .before .before .before .before .before .before .before .before .pre .read) (c .before .before .before .before .before .before .before .before .before .before .before .before .before .before .before .before .before .before .pre .are-safe)) _ (made-reads (c .before .before .before .before .before .before .before .before .before .before .before .start-at .ensures) (c .before .before .before .before .before .before .put-started .ensures .made)) (made-going (c .before .before .before .before .before .before .before .before .before .before .before .start-at .ensures) (c .before .before .before .before .before .before .before .before .before .before .if1 .left) (c .before .before .before .before .before .before .put-started .ensures .made)))
 
 loop-less : tie.Need-loop-less Inv-loop μ-loop
-loop-less c = omega (arith, filling-room (c .before .before .before .before .before .before .before .before .before .before .before .before .before .before .before .before .before .before .before .before .args .program .now) (c .before .before .before .before .before .before .before .before .before .before .before .before .before .before .before .before .before .before .before .before .args .output .now) (c .before .before .before .before .before .before .before .before .before .before .before .before .before .before .before .before .before .before .before .before .args .names .now) (c .before .before .before .before .before .before .before .before .before .before .before .before .before .before .before .before .before .before .before .before .args .rules .now) (c .before .before .before .before .before .before .before .before .before .before .before .before .before .before .before .before .before .before .before .before .args .literals .now) (c .before .before .before .before .before .before .before .before .before .before .before .before .before .before .before .before .before .before .before .before .pre) (c .before .before .before .before .before .before .before .before .before .before .before .before .before .before .before .before .before .before .before .before .pre .rules-of-it) (c .before .before .before .before .before .before .before .before .before .before .before .before .before .before .before .before .before .before .before .before .pre .read) (c .before .before .before .before .before .before .before .before .before .before .before .before .before .before .before .before .before .before .before .before .pre .are-safe) (c .before .before .before .before .before .before .before .before .before .before .before .before .before .before .loop .names) (c .before .before .before .before .before .before .before .before .before .before .before .before .before .before .loop .rules) (c .before .before .before .before .before .before .before .before .before .before .before .before .before .before .loop .literals) (c .before .before .before .before .before .before .before .before .before .before .before .before .before .before .loop .at) (c .before .before .before .before .before .before .before .before .before .before .before .before .before .before .loop .count) (c .before .before .before .before .before .before .before .before .before .before .before .before .before .before .loop .inv .0 (c .before .before .before .before .before .before .before .before .before .before .before .before .before .before .before .before .before .before .before .before .pre .rules-of-it) (c .before .before .before .before .before .before .before .before .before .before .before .before .before .before .before .before .before .before .before .before .pre .read) (c .before .before .before .before .before .before .before .before .before .before .before .before .before .before .before .before .before .before .before .before .pre .are-safe)) _ (c .before .before .before .before .before .before .before .before .before .before .before .before .before .rule-at .ensures) (c .before .before .before .before .before .before .before .before .before .before .before .before .if1 .left))
+loop-less c = omega (arith, filling-room (c .before .before .before .before .before .before .before .before .before .before .before .before .before .before .before .before .before .before .args .program .now) (c .before .before .before .before .before .before .before .before .before .before .before .before .before .before .before .before .before .before .args .output .now) (c .before .before .before .before .before .before .before .before .before .before .before .before .before .before .before .before .before .before .args .names .now) (c .before .before .before .before .before .before .before .before .before .before .before .before .before .before .before .before .before .before .args .rules .now) (c .before .before .before .before .before .before .before .before .before .before .before .before .before .before .before .before .before .before .args .literals .now) (c .before .before .before .before .before .before .before .before .before .before .before .before .before .before .before .before .before .before .pre) (c .before .before .before .before .before .before .before .before .before .before .before .before .before .before .before .before .before .before .pre .rules-of-it) (c .before .before .before .before .before .before .before .before .before .before .before .before .before .before .before .before .before .before .pre .read) (c .before .before .before .before .before .before .before .before .before .before .before .before .before .before .before .before .before .before .pre .are-safe) (c .before .before .before .before .before .before .before .before .before .before .before .before .loop .names) (c .before .before .before .before .before .before .before .before .before .before .before .before .loop .rules) (c .before .before .before .before .before .before .before .before .before .before .before .before .loop .literals) (c .before .before .before .before .before .before .before .before .before .before .before .before .loop .at) (c .before .before .before .before .before .before .before .before .before .before .before .before .loop .count) (c .before .before .before .before .before .before .before .before .before .before .before .before .loop .inv .0 (c .before .before .before .before .before .before .before .before .before .before .before .before .before .before .before .before .before .before .pre .rules-of-it) (c .before .before .before .before .before .before .before .before .before .before .before .before .before .before .before .before .before .before .pre .read) (c .before .before .before .before .before .before .before .before .before .before .before .before .before .before .before .before .before .before .pre .are-safe)) _ (made-reads (c .before .before .before .before .before .before .before .before .before .before .before .start-at .ensures) (c .before .before .before .before .before .before .put-started .ensures .made)) (made-going (c .before .before .before .before .before .before .before .before .before .before .before .start-at .ensures) (c .before .before .before .before .before .before .before .before .before .before .if1 .left) (c .before .before .before .before .before .before .put-started .ensures .made)))
 
 loop-again : tie.Need-loop-again Inv-loop μ-loop
-loop-again c = ((λ p r s. filling-on (c .before .before .before .before .before .before .before .before .before .before .before .before .before .before .before .before .before .before .before .before .args .program .now) (c .before .before .before .before .before .before .before .before .before .before .before .before .before .before .before .before .before .before .before .before .args .output .now) (c .before .before .before .before .before .before .before .before .before .before .before .before .before .before .before .before .before .before .before .before .args .names .now) (c .before .before .before .before .before .before .before .before .before .before .before .before .before .before .before .before .before .before .before .before .args .rules .now) (c .before .before .before .before .before .before .before .before .before .before .before .before .before .before .before .before .before .before .before .before .args .literals .now) (c .before .before .before .before .before .before .before .before .before .before .before .before .before .before .before .before .before .before .before .before .pre) p r s (c .before .before .before .before .before .before .before .before .before .before .before .before .before .before .loop .names) (c .before .before .before .before .before .before .before .before .before .before .before .before .before .before .loop .rules) (c .before .before .before .before .before .before .before .before .before .before .before .before .before .before .loop .literals) (c .before .before .before .before .before .before .before .before .before .before .before .before .before .before .loop .at) (c .before .before .before .before .before .before .before .before .before .before .before .before .before .before .loop .count) (c .before .before .before .before .before .before .before .before .before .before .before .before .before .before .loop .inv .0 p r s) _ (c .before .before .before .before .before .before .before .before .before .before .before .before .before .rule-at .ensures) (c .before .before .before .before .before .before .before .before .before .before .before .before .if1 .left) _ _ _ (c .before .before .before .before .before .before .before .put-rule .ensures)), (search needs), (search needs), (search needs))
+loop-again c = ((λ p r s. rw (c .before .before .before .before .before .before .put-started .ensures .behind) (filling-on (c .before .before .before .before .before .before .before .before .before .before .before .before .before .before .before .before .before .before .args .program .now) (c .before .before .before .before .before .before .before .before .before .before .before .before .before .before .before .before .before .before .args .output .now) (c .before .before .before .before .before .before .before .before .before .before .before .before .before .before .before .before .before .before .args .names .now) (c .before .before .before .before .before .before .before .before .before .before .before .before .before .before .before .before .before .before .args .rules .now) (c .before .before .before .before .before .before .before .before .before .before .before .before .before .before .before .before .before .before .args .literals .now) (c .before .before .before .before .before .before .before .before .before .before .before .before .before .before .before .before .before .before .pre) p r s (c .before .before .before .before .before .before .before .before .before .before .before .before .loop .names) (c .before .before .before .before .before .before .before .before .before .before .before .before .loop .rules) (c .before .before .before .before .before .before .before .before .before .before .before .before .loop .literals) (c .before .before .before .before .before .before .before .before .before .before .before .before .loop .at) (c .before .before .before .before .before .before .before .before .before .before .before .before .loop .count) (c .before .before .before .before .before .before .before .before .before .before .before .before .loop .inv .0 p r s) _ (made-reads (c .before .before .before .before .before .before .before .before .before .before .before .start-at .ensures) (c .before .before .before .before .before .before .put-started .ensures .made)) (made-going (c .before .before .before .before .before .before .before .before .before .before .before .start-at .ensures) (c .before .before .before .before .before .before .before .before .before .before .if1 .left) (c .before .before .before .before .before .before .put-started .ensures .made)) _ _ _ (c .before .before .before .before .before .before .put-started .ensures .stores))), (search needs), (search needs), (search needs))
 
 pub fill-rules-spec : {M : Type 1} → statement M
 fill-rules-spec =
@@ -63,12 +65,12 @@ fill-rules-spec =
     Inv-loop
     μ-loop
     loop-holds
-    rule-at-requires
+    start-at-requires
     same-length
     same-length-2
     same-length-3
     returns
-    put-rule-requires
+    put-started-requires
     add-count
     loop-less
     loop-again)

@@ -2,48 +2,66 @@
 use mathlib.Core.Path.{_≡_}
 use native.Mathlib.Omega.{arith}
 use lib.ListN.{length}
+use Rattle.rule.specs.Plain.{meant-rule}
+use Rattle.rule.specs.Stands.{rule-of}
 use Rattle.safety.proofs.Firsts.{array-length}
 use Rattle.rulerows.proofs.Storing.{head-room, is-numbered, body-room, body-fits, rule-stored}
 use borrow.Author.Needs.{needs}
 use Rattle.rulerows.proofs.clause.put_rule.Statement.{statement}
 use Rattle.rulerows.proofs.clause.put_rule.Tie as tie
+use Rattle.rulerows.proofs.clause.put_rule.Reads as reads
+use Rattle.rulerows.proofs.clause.put_rule.Lts as lts
+use Rattle.rulerows.proofs.body.put_body.Reads as put-body-reads
+use Rattle.rulerows.proofs.body.put_head.Reads as put-head-reads
+use Rattle.rulerows.proofs.places.numbers_of.Reads as numbers-of-reads
+use Rattle.rulerows.proofs.places.put_numbers.Reads as put-numbers-reads
 
+-- src/clause.rt:35:14
 mul-at : tie.Need-mul-at
 mul-at c = let f = c .before .before .before .before .before .pre .few in omega arith
 
+-- src/clause.rt:36:17
 add-first : tie.Need-add-first
 add-first c = let f = c .before .before .before .before .before .pre .few in omega arith
 
+-- src/clause.rt:38:9
 put-head-requires : tie.Need-put-head-requires
-put-head-requires c κs =
-    let f = c .before .before .before .before .before .before .before .pre .few in
-    let l = c .before .before .before .before .before .before .before .pre .literals-long in
-    (head-room (c .before .before .before .before .before .before .before .args .program .now) (c .before .before .before .before .before .before .before .args .output .now) (c .before .before .before .before .before .before .before .args .names .now) (c .before .before .before .before .before .before .before .args .rules .now) (c .before .before .before .before .before .before .before .args .literals .now) (c .before .before .before .before .before .before .before .args .number) (c .before .before .before .before .before .before .before .args .source) (c .before .before .before .before .before .before .before .args .rule) (c .before .before .before .before .before .before .before .pre), c .before .before .before .before .before .before .before .pre .codable .head, omega arith, omega arith)
+unfolding rule-of meant-rule
+put-head-requires c κs = let f = c .before .before .before .before .before .before .before .before .pre .few in let l = c .before .before .before .before .before .before .before .before .pre .literals-long in (head-room (c .before .before .before .before .before .before .before .before .args .program .now) (c .before .before .before .before .before .before .before .before .args .output .now) (c .before .before .before .before .before .before .before .before .args .names .now) (c .before .before .before .before .before .before .before .before .args .rules .now) (c .before .before .before .before .before .before .before .before .args .literals .now) (c .before .before .before .before .before .before .before .before .args .number) (c .before .before .before .before .before .before .before .before .args .source) (c .before .before .before .before .before .before .before .before .args .rule) (c .before .before .before .before .before .before .before .before .pre), c .before .before .before .before .before .before .before .before .pre .codable .head, omega arith, omega arith)
 
+-- src/clause.rt:48:5
 put-body-requires : tie.Need-put-body-requires
-put-body-requires c κs = (body-room (c .before .before .before .before .before .before .before .before .before .before .before .before .before .before .args .program .now) (c .before .before .before .before .before .before .before .before .before .before .before .before .before .before .args .output .now) (c .before .before .before .before .before .before .before .before .before .before .before .before .before .before .args .names .now) (c .before .before .before .before .before .before .before .before .before .before .before .before .before .before .args .rules .now) (c .before .before .before .before .before .before .before .before .before .before .before .before .before .before .args .literals .now) (c .before .before .before .before .before .before .before .before .before .before .before .before .before .before .args .number) (c .before .before .before .before .before .before .before .before .before .before .before .before .before .before .args .source) (c .before .before .before .before .before .before .before .before .before .before .before .before .before .before .args .rule) (c .before .before .before .before .before .before .before .before .before .before .before .before .before .before .pre) _ _ _ (c .before .before .before .before .before .before .put-head .ensures), c .before .before .before .before .before .before .before .before .before .before .before .before .before .before .pre .codable .body, body-fits (c .before .before .before .before .before .before .before .before .before .before .before .before .before .before .args .program .now) (c .before .before .before .before .before .before .before .before .before .before .before .before .before .before .args .output .now) (c .before .before .before .before .before .before .before .before .before .before .before .before .before .before .args .names .now) (c .before .before .before .before .before .before .before .before .before .before .before .before .before .before .args .rules .now) (c .before .before .before .before .before .before .before .before .before .before .before .before .before .before .args .literals .now) (c .before .before .before .before .before .before .before .before .before .before .before .before .before .before .args .number) (c .before .before .before .before .before .before .before .before .before .before .before .before .before .before .args .source) (c .before .before .before .before .before .before .before .before .before .before .before .before .before .before .args .rule) (c .before .before .before .before .before .before .before .before .before .before .before .before .before .before .pre) _ _ _ (c .before .before .before .before .before .before .put-head .ensures))
+unfolding rule-of meant-rule
+put-body-requires c κs = (body-room (c .before .before .before .before .before .before .before .before .before .before .before .before .before .before .before .args .program .now) (c .before .before .before .before .before .before .before .before .before .before .before .before .before .before .before .args .output .now) (c .before .before .before .before .before .before .before .before .before .before .before .before .before .before .before .args .names .now) (c .before .before .before .before .before .before .before .before .before .before .before .before .before .before .before .args .rules .now) (c .before .before .before .before .before .before .before .before .before .before .before .before .before .before .before .args .literals .now) (c .before .before .before .before .before .before .before .before .before .before .before .before .before .before .before .args .number) (c .before .before .before .before .before .before .before .before .before .before .before .before .before .before .before .args .source) (c .before .before .before .before .before .before .before .before .before .before .before .before .before .before .before .args .rule) (c .before .before .before .before .before .before .before .before .before .before .before .before .before .before .before .pre) _ _ _ (c .before .before .before .before .before .before .put-head .ensures), c .before .before .before .before .before .before .before .before .before .before .before .before .before .before .before .pre .codable .body, body-fits (c .before .before .before .before .before .before .before .before .before .before .before .before .before .before .before .args .program .now) (c .before .before .before .before .before .before .before .before .before .before .before .before .before .before .before .args .output .now) (c .before .before .before .before .before .before .before .before .before .before .before .before .before .before .before .args .names .now) (c .before .before .before .before .before .before .before .before .before .before .before .before .before .before .before .args .rules .now) (c .before .before .before .before .before .before .before .before .before .before .before .before .before .before .before .args .literals .now) (c .before .before .before .before .before .before .before .before .before .before .before .before .before .before .before .args .number) (c .before .before .before .before .before .before .before .before .before .before .before .before .before .before .before .args .source) (c .before .before .before .before .before .before .before .before .before .before .before .before .before .before .before .args .rule) (c .before .before .before .before .before .before .before .before .before .before .before .before .before .before .before .pre) _ _ _ (c .before .before .before .before .before .before .put-head .ensures))
 
+-- src/clause.rt:49:24
 mul-put-numbers : tie.Need-mul-put-numbers
-mul-put-numbers c = let f = c .before .before .before .before .before .before .before .before .before .before .before .before .before .before .before .before .before .before .before .before .pre .few in omega arith
+mul-put-numbers c = let f = c .before .before .before .before .before .before .before .before .before .before .before .before .before .before .before .before .before .before .before .before .before .pre .few in omega arith
 
+-- src/clause.rt:49:51
+numbers-of-requires : tie.Need-numbers-of-requires
+numbers-of-requires c κs = let f = c .before .before .before .before .before .before .before .before .before .before .before .before .before .before .before .before .before .before .before .before .before .pre .few in (is-numbered (c .before .before .before .before .before .before .before .before .before .before .before .before .before .before .before .before .before .before .before .before .before .args .program .now) (c .before .before .before .before .before .before .before .before .before .before .before .before .before .before .before .before .before .before .before .before .before .args .output .now) (c .before .before .before .before .before .before .before .before .before .before .before .before .before .before .before .before .before .before .before .before .before .args .names .now) (c .before .before .before .before .before .before .before .before .before .before .before .before .before .before .before .before .before .before .before .before .before .args .rules .now) (c .before .before .before .before .before .before .before .before .before .before .before .before .before .before .before .before .before .before .before .before .before .args .literals .now) (c .before .before .before .before .before .before .before .before .before .before .before .before .before .before .before .before .before .before .before .before .before .args .number) (c .before .before .before .before .before .before .before .before .before .before .before .before .before .before .before .before .before .before .before .before .before .args .source) (c .before .before .before .before .before .before .before .before .before .before .before .before .before .before .before .before .before .before .before .before .before .args .rule) (c .before .before .before .before .before .before .before .before .before .before .before .before .before .before .before .before .before .before .before .before .before .pre), omega arith)
+
+-- src/clause.rt:49:5
 put-numbers-requires : tie.Need-put-numbers-requires
-put-numbers-requires c κs =
-    let f = c .before .before .before .before .before .before .before .before .before .before .before .before .before .before .before .before .before .before .before .before .pre .few in
-    (is-numbered (c .before .before .before .before .before .before .before .before .before .before .before .before .before .before .before .before .before .before .before .before .args .program .now) (c .before .before .before .before .before .before .before .before .before .before .before .before .before .before .before .before .before .before .before .before .args .output .now) (c .before .before .before .before .before .before .before .before .before .before .before .before .before .before .before .before .before .before .before .before .args .names .now) (c .before .before .before .before .before .before .before .before .before .before .before .before .before .before .before .before .before .before .before .before .args .rules .now) (c .before .before .before .before .before .before .before .before .before .before .before .before .before .before .before .before .before .before .before .before .args .literals .now) (c .before .before .before .before .before .before .before .before .before .before .before .before .before .before .before .before .before .before .before .before .args .number) (c .before .before .before .before .before .before .before .before .before .before .before .before .before .before .before .before .before .before .before .before .args .source) (c .before .before .before .before .before .before .before .before .before .before .before .before .before .before .before .before .before .before .before .before .args .rule) (c .before .before .before .before .before .before .before .before .before .before .before .before .before .before .before .before .before .before .before .before .pre), omega arith, c .before .before .before .before .before .before .before .before .before .before .before .before .before .before .before .before .before .before .before .before .pre .rules-long)
+put-numbers-requires c κs = c .before .before .before .before .before .before .before .before .before .before .before .before .before .before .before .before .before .before .before .before .before .before .pre .rules-long
 
+-- src/clause.rt:22:1
 same-length : tie.Need-same-length
 same-length c = search needs
 
+-- src/clause.rt:22:1
 same-length-2 : tie.Need-same-length-2
 same-length-2 c = search needs
 
+-- src/clause.rt:22:1
 same-length-3 : tie.Need-same-length-3
 same-length-3 c = search needs
 
+-- src/clause.rt:22:1
 returns : tie.Need-returns
-returns c =
-    let sixteen : length (c .before .before .before .before .before .before .before .before .before .before .before .before .before .before .before .before .before .before .before .before .before .before .before .args .rule .body) ≡ 16 = search (needs, array-length, c .before .before .before .before .before .before .before .before .before .before .before .before .before .before .before .before .before .before .before .before .before .before .before .good) in
-    rule-stored (c .before .before .before .before .before .before .before .before .before .before .before .before .before .before .before .before .before .before .before .before .before .before .before .args .program .now) (c .before .before .before .before .before .before .before .before .before .before .before .before .before .before .before .before .before .before .before .before .before .before .before .args .output .now) (c .before .before .before .before .before .before .before .before .before .before .before .before .before .before .before .before .before .before .before .before .before .before .before .args .names .now) (c .before .before .before .before .before .before .before .before .before .before .before .before .before .before .before .before .before .before .before .before .before .before .before .args .rules .now) (c .before .before .before .before .before .before .before .before .before .before .before .before .before .before .before .before .before .before .before .before .before .before .before .args .literals .now) (c .before .before .before .before .before .before .before .before .before .before .before .before .before .before .before .before .before .before .before .before .before .before .before .args .number) (c .before .before .before .before .before .before .before .before .before .before .before .before .before .before .before .before .before .before .before .before .before .before .before .args .source) (c .before .before .before .before .before .before .before .before .before .before .before .before .before .before .before .before .before .before .before .before .before .before .before .args .rule) (c .before .before .before .before .before .before .before .before .before .before .before .before .before .before .before .before .before .before .before .before .before .before .before .pre) _ _ _ (c .before .before .before .before .before .before .before .before .before .before .before .before .before .before .before .put-head .ensures) _ _ (c .before .before .before .before .before .before .before .before .put-body .ensures) _ (c .before .before .put-numbers .ensures) sixteen
+unfolding rule-of meant-rule
+returns c = let parts = c .before .before .before .before .before .before .before .before .before .before .before .before .before .before .before .before .before .before .before .before .before .before .before .before .before .good .1 .1 .1 .1 .1 .1 .1 .0 .1 in let sixteen : length (c .before .before .before .before .before .before .before .before .before .before .before .before .before .before .before .before .before .before .before .before .before .before .before .before .before .args .rule .body) ≡ 16 = search (array-length, parts) in rule-stored (c .before .before .before .before .before .before .before .before .before .before .before .before .before .before .before .before .before .before .before .before .before .before .before .before .before .args .program .now) (c .before .before .before .before .before .before .before .before .before .before .before .before .before .before .before .before .before .before .before .before .before .before .before .before .before .args .output .now) (c .before .before .before .before .before .before .before .before .before .before .before .before .before .before .before .before .before .before .before .before .before .before .before .before .before .args .names .now) (c .before .before .before .before .before .before .before .before .before .before .before .before .before .before .before .before .before .before .before .before .before .before .before .before .before .args .rules .now) (c .before .before .before .before .before .before .before .before .before .before .before .before .before .before .before .before .before .before .before .before .before .before .before .before .before .args .literals .now) (c .before .before .before .before .before .before .before .before .before .before .before .before .before .before .before .before .before .before .before .before .before .before .before .before .before .args .number) (c .before .before .before .before .before .before .before .before .before .before .before .before .before .before .before .before .before .before .before .before .before .before .before .before .before .args .source) (c .before .before .before .before .before .before .before .before .before .before .before .before .before .before .before .before .before .before .before .before .before .before .before .before .before .args .rule) (c .before .before .before .before .before .before .before .before .before .before .before .before .before .before .before .before .before .before .before .before .before .before .before .before .before .pre) _ _ _ (c .before .before .before .before .before .before .before .before .before .before .before .before .before .before .before .before .put-head .ensures) _ _ (c .before .before .before .before .before .before .before .before .before .put-body .ensures) _ (c .before .before .put-numbers .ensures .0 _ (c .before .before .before .numbers-of .ensures), c .before .before .put-numbers .ensures .1) sixteen
 
 pub put-rule-spec : {M : Type 1} → statement M
 put-rule-spec =
@@ -54,6 +72,7 @@ put-rule-spec =
     put-head-requires
     put-body-requires
     mul-put-numbers
+    numbers-of-requires
     put-numbers-requires
     same-length
     same-length-2

@@ -1,69 +1,59 @@
--- `places::put_numbers` meets its contract: six numbers, and the rows of the equations and of the positive literals behind them.
--- Assumes nothing.
+-- `places::put_numbers` meets its contract: six numbers, and the rows of the equations and of the positive literals behind them. Assumes nothing.
 use mathlib.Core.Path.{_≡_}
 use lib.ListN.{length}
 use Rattle.safety.proofs.Firsts.{array-length}
-use Rattle.rulerows.proofs.Numbers.{scanned-low, room₂, room₃, numbers-stored}
+use Rattle.rulerows.proofs.Numbers.{room₂, room₃, numbers-stored}
 use borrow.Author.Needs.{needs}
 use Rattle.rulerows.proofs.places.put_numbers.Statement.{statement}
 use Rattle.rulerows.proofs.places.put_numbers.Tie as tie
+use Rattle.rulerows.proofs.places.put_numbers.Reads as reads
+use Rattle.rulerows.proofs.places.put_numbers.Lts as lts
+use Rattle.rulerows.proofs.row.put_row.Reads as put-row-reads
 
-positive-rows-requires : tie.Need-positive-rows-requires
-positive-rows-requires c κs = search needs
-
-scan-requires : tie.Need-scan-requires
-scan-requires c κs = search needs
-
-equation-rows-requires : tie.Need-equation-rows-requires
-equation-rows-requires c κs =
-    let sixteen : length (c .before .before .before .args .rule .body) ≡ 16 = search (needs, array-length) in
-    (c .before .before .before .pre .1, scanned-low (c .before .before .before .args .rule) (c .scan .result) (c .scan .ensures) sixteen)
-
-least-requires : tie.Need-least-requires
-least-requires c κs = search needs
-
-has-operation-requires : tie.Need-has-operation-requires
-has-operation-requires c κs = search needs
-
+-- src/places.rt:160:24
 slice-aggregate-put-row : tie.Need-slice-aggregate-put-row
 slice-aggregate-put-row c = search needs
 
+-- src/places.rt:160:5
 put-row-requires : tie.Need-put-row-requires
 put-row-requires c κs = search needs
 
+-- src/places.rt:162:20
 add-put-row : tie.Need-add-put-row
 add-put-row c = search needs
 
+-- src/places.rt:162:42
 slice-aggregate-put-row-2 : tie.Need-slice-aggregate-put-row-2
 slice-aggregate-put-row-2 c = search needs
 
+-- src/places.rt:162:5
 put-row-requires-2 : tie.Need-put-row-requires-2
-put-row-requires-2 c κs = room₂ (c .before .before .before .before .before .before .before .before .before .before .before .before .before .before .args .rule) (c .before .before .before .before .before .before .before .before .before .before .before .before .before .before .args .head) (c .before .before .before .before .before .before .before .before .before .before .before .before .before .before .args .first) (c .before .before .before .before .before .before .before .before .before .before .before .before .before .before .args .at) (c .before .before .before .before .before .before .before .before .before .before .before .before .before .before .args .rules .now) (c .before .before .before .before .before .before .before .before .before .before .before .before .before .before .pre .2) (c .before .before .before .before .before .before .before .before .before .before .before .before .positive-rows .result) (c .before .before .before .before .before .before .before .before .before .before .equation-rows .result) (c .before .before .before .before .before .before .before .before .before .before .before .before .positive-rows .ensures) (c .before .before .before .before .before .before .before .before .before .before .before .scan .result) (c .before .before .before .before .before .before .before .before .before .before .before .scan .ensures) (c .before .before .before .before .before .before .before .before .before .before .equation-rows .ensures) _ (c .before .before .before .before .before .before .before .before .before .least .ensures) _ (c .before .before .before .before .before .before .before .before .has-operation .ensures) _ (c .before .before .before .before .before .put-row .ensures) (search (needs, c .before .before .before .before .before .before .before .before .before .before .equation-rows .ok))
+put-row-requires-2 c κs = let sixteen : length (c .before .before .before .before .before .before .before .before .before .before .before .args .numbers .equations .rows) ≡ 16 = search (needs, array-length) in room₂ (c .before .before .before .before .before .before .before .before .before .before .before .args .head) (c .before .before .before .before .before .before .before .before .before .before .before .args .first) (c .before .before .before .before .before .before .before .before .before .before .before .args .at) (c .before .before .before .before .before .before .before .before .before .before .before .args .rules .now) (c .before .before .before .before .before .before .before .before .before .before .before .pre) (c .before .before .before .before .before .before .before .before .before .before .before .args .numbers) _ (c .before .before .before .before .before .put-row .ensures) sixteen
 
+-- src/places.rt:164:20
 add-put-row-2 : tie.Need-add-put-row-2
 add-put-row-2 c = search needs
 
+-- src/places.rt:164:42
 slice-aggregate-put-row-3 : tie.Need-slice-aggregate-put-row-3
-slice-aggregate-put-row-3 c = search (needs, c .before .before .before .before .before .before .before .before .before .before .before .before .before .before .before .before .before .before .positive-rows .ok)
+slice-aggregate-put-row-3 c = search needs
 
+-- src/places.rt:164:5
 put-row-requires-3 : tie.Need-put-row-requires-3
-put-row-requires-3 c κs = room₃ (c .before .before .before .before .before .before .before .before .before .before .before .before .before .before .before .before .before .before .before .before .args .rule) (c .before .before .before .before .before .before .before .before .before .before .before .before .before .before .before .before .before .before .before .before .args .head) (c .before .before .before .before .before .before .before .before .before .before .before .before .before .before .before .before .before .before .before .before .args .first) (c .before .before .before .before .before .before .before .before .before .before .before .before .before .before .before .before .before .before .before .before .args .at) (c .before .before .before .before .before .before .before .before .before .before .before .before .before .before .before .before .before .before .before .before .args .rules .now) (c .before .before .before .before .before .before .before .before .before .before .before .before .before .before .before .before .before .before .before .before .pre .2) (c .before .before .before .before .before .before .before .before .before .before .before .before .before .before .before .before .before .before .positive-rows .result) (c .before .before .before .before .before .before .before .before .before .before .before .before .before .before .before .before .equation-rows .result) (c .before .before .before .before .before .before .before .before .before .before .before .before .before .before .before .before .before .before .positive-rows .ensures) (c .before .before .before .before .before .before .before .before .before .before .before .before .before .before .before .before .before .scan .result) (c .before .before .before .before .before .before .before .before .before .before .before .before .before .before .before .before .before .scan .ensures) (c .before .before .before .before .before .before .before .before .before .before .before .before .before .before .before .before .equation-rows .ensures) _ (c .before .before .before .before .before .before .before .before .before .before .before .before .before .before .before .least .ensures) _ (c .before .before .before .before .before .before .before .before .before .before .before .before .before .before .has-operation .ensures) _ (c .before .before .before .before .before .before .before .before .before .before .before .put-row .ensures) _ (c .before .before .before .before .before .put-row2 .ensures) (search (needs, c .before .before .before .before .before .before .before .before .before .before .before .before .before .before .before .before .equation-rows .ok)) (search (needs, c .before .before .before .before .before .before .before .before .before .before .before .before .before .before .before .before .before .before .positive-rows .ok))
+put-row-requires-3 c κs = let one : length (c .before .before .before .before .before .before .before .before .before .before .before .before .before .before .before .before .before .args .numbers .equations .rows) ≡ 16 = search (needs, array-length) in let two : length (c .before .before .before .before .before .before .before .before .before .before .before .before .before .before .before .before .before .args .numbers .positives .rows) ≡ 16 = search (needs, array-length) in room₃ (c .before .before .before .before .before .before .before .before .before .before .before .before .before .before .before .before .before .args .head) (c .before .before .before .before .before .before .before .before .before .before .before .before .before .before .before .before .before .args .first) (c .before .before .before .before .before .before .before .before .before .before .before .before .before .before .before .before .before .args .at) (c .before .before .before .before .before .before .before .before .before .before .before .before .before .before .before .before .before .args .rules .now) (c .before .before .before .before .before .before .before .before .before .before .before .before .before .before .before .before .before .pre) (c .before .before .before .before .before .before .before .before .before .before .before .before .before .before .before .before .before .args .numbers) _ (c .before .before .before .before .before .before .before .before .before .before .before .put-row .ensures) _ (c .before .before .before .before .before .put-row2 .ensures) one two
 
+-- src/places.rt:146:1
 same-length : tie.Need-same-length
 same-length c = search needs
 
+-- src/places.rt:146:1
 returns : tie.Need-returns
-returns c = numbers-stored (c .before .before .before .before .before .before .before .before .before .before .before .before .before .before .before .before .before .before .before .before .before .before .before .args .rule) (c .before .before .before .before .before .before .before .before .before .before .before .before .before .before .before .before .before .before .before .before .before .before .before .args .head) (c .before .before .before .before .before .before .before .before .before .before .before .before .before .before .before .before .before .before .before .before .before .before .before .args .first) (c .before .before .before .before .before .before .before .before .before .before .before .before .before .before .before .before .before .before .before .before .before .before .before .args .at) (c .before .before .before .before .before .before .before .before .before .before .before .before .before .before .before .before .before .before .before .before .before .before .before .args .rules .now) (c .before .before .before .before .before .before .before .before .before .before .before .before .before .before .before .before .before .before .before .before .before .before .before .pre .2) (c .before .before .before .before .before .before .before .before .before .before .before .before .before .before .before .before .before .before .before .before .before .positive-rows .result) (c .before .before .before .before .before .before .before .before .before .before .before .before .before .before .before .before .before .before .before .equation-rows .result) (c .before .before .before .before .before .before .before .before .before .before .before .before .before .before .before .before .before .before .before .before .before .positive-rows .ensures) (c .before .before .before .before .before .before .before .before .before .before .before .before .before .before .before .before .before .before .before .before .scan .result) (c .before .before .before .before .before .before .before .before .before .before .before .before .before .before .before .before .before .before .before .before .scan .ensures) (c .before .before .before .before .before .before .before .before .before .before .before .before .before .before .before .before .before .before .before .equation-rows .ensures) _ (c .before .before .before .before .before .before .before .before .before .before .before .before .before .before .before .before .before .before .least .ensures) _ (c .before .before .before .before .before .before .before .before .before .before .before .before .before .before .before .before .before .has-operation .ensures) _ (c .before .before .before .before .before .before .before .before .before .before .before .before .before .before .put-row .ensures) _ (c .before .before .before .before .before .before .before .before .put-row2 .ensures) (search (needs, c .before .before .before .before .before .before .before .before .before .before .before .before .before .before .before .before .before .before .before .equation-rows .ok)) _ (c .before .before .put-row3 .ensures) (search (needs, c .before .before .before .before .before .before .before .before .before .before .before .before .before .before .before .before .before .before .before .before .before .positive-rows .ok))
+returns c = let one : length (c .before .before .before .before .before .before .before .before .before .before .before .before .before .before .before .before .before .before .before .before .args .numbers .equations .rows) ≡ 16 = search (needs, array-length) in let two : length (c .before .before .before .before .before .before .before .before .before .before .before .before .before .before .before .before .before .before .before .before .args .numbers .positives .rows) ≡ 16 = search (needs, array-length) in numbers-stored (c .before .before .before .before .before .before .before .before .before .before .before .before .before .before .before .before .before .before .before .before .args .head) (c .before .before .before .before .before .before .before .before .before .before .before .before .before .before .before .before .before .before .before .before .args .first) (c .before .before .before .before .before .before .before .before .before .before .before .before .before .before .before .before .before .before .before .before .args .at) (c .before .before .before .before .before .before .before .before .before .before .before .before .before .before .before .before .before .before .before .before .args .rules .now) (c .before .before .before .before .before .before .before .before .before .before .before .before .before .before .before .before .before .before .before .before .pre) (c .before .before .before .before .before .before .before .before .before .before .before .before .before .before .before .before .before .before .before .before .args .numbers) _ (c .before .before .before .before .before .before .before .before .before .before .before .before .before .before .put-row .ensures) _ (c .before .before .before .before .before .before .before .before .put-row2 .ensures) one _ (c .before .before .put-row3 .ensures) two
 
 pub put-numbers-spec : {M : Type 1} → statement M
 put-numbers-spec =
     tie.close
     (tie.spec
-    positive-rows-requires
-    scan-requires
-    equation-rows-requires
-    least-requires
-    has-operation-requires
     slice-aggregate-put-row
     put-row-requires
     add-put-row

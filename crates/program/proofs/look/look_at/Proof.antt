@@ -1,0 +1,53 @@
+-- `look::look_at` meets its contract: one law for each way through it. Assumes nothing.
+use Rattle.syntax.proofs.Rules.{bodied-fits}
+use Rattle.program.proofs.Looked.{fact-looks, body-numbers, body-stops, body-looks}
+use borrow.Author.Tests.{not-true, not-false}
+use borrow.Author.Needs.{needs}
+use Rattle.program.proofs.look.look_at.Statement.{statement}
+use Rattle.program.proofs.look.look_at.Tie as tie
+use Rattle.program.proofs.look.look_at.Reads as reads
+use Rattle.program.proofs.look.look_at.Lts as lts
+use Rattle.program.proofs.look.first_met.Reads as first-met-reads
+use Rattle.safety.proofs.first_unbound.Reads as first-unbound-reads
+use Rattle.syntax.proofs.body.body_at.Reads as body-at-reads
+use Rattle.syntax.proofs.start.start_at.Reads as start-at-reads
+
+-- src/look.rt:41:9
+start-at-requires : tie.Need-start-at-requires
+start-at-requires c κs = search needs
+
+-- src/look.rt:45:13
+first-met-requires : tie.Need-first-met-requires
+first-met-requires c κs = search needs
+
+-- src/look.rt:46:9
+returns : tie.Need-returns
+returns c = fact-looks _ _ _ _ (c .before .before .before .before .before .start-at .ensures) (not-true _ (c .before .if1 .taken)) _ (c .first-met .ensures)
+
+-- src/look.rt:53:9
+body-at-requires : tie.Need-body-at-requires
+body-at-requires c κs = bodied-fits _ _ _ _ _ (c .before .before .before .before .before .start-at .ensures) (not-false _ (c .before .if1 .left))
+
+-- src/look.rt:56:9
+returns-2 : tie.Need-returns-2
+returns-2 c = body-stops _ _ _ _ (c .before .before .before .before .before .before .before .before .before .start-at .ensures) (not-false _ (c .before .before .before .before .before .if1 .left)) _ (c .before .before .before .body-at .ensures) (c .if2 .taken) _
+
+-- src/look.rt:66:9
+first-unbound-requires : tie.Need-first-unbound-requires
+first-unbound-requires c κs = body-numbers _ _ _ _ (c .before .before .before .before .before .before .before .before .before .before .start-at .ensures) (not-false _ (c .before .before .before .before .before .before .if1 .left)) _ (c .before .before .before .before .body-at .ensures) (c .before .if2 .left)
+
+-- src/look.rt:38:1
+returns-3 : tie.Need-returns-3
+returns-3 c = body-looks _ _ _ _ (c .before .before .before .before .before .before .before .before .before .before .before .start-at .ensures) (not-false _ (c .before .before .before .before .before .before .before .if1 .left)) _ (c .before .before .before .before .before .body-at .ensures) _ (c .first-unbound .ensures)
+
+pub look-at-spec : {M : Type 1} → statement M
+look-at-spec =
+    tie.close
+    (tie.spec
+    start-at-requires
+    first-met-requires
+    returns
+    body-at-requires
+    returns-2
+    first-unbound-requires
+    returns-3)

@@ -1,0 +1,23 @@
+-- `start::stopped` meets its contract. Assumes nothing.
+use borrow.Author.Needs.{needs}
+use Rattle.syntax.proofs.start.stopped.Statement.{statement}
+use Rattle.syntax.proofs.start.stopped.Tie as tie
+use Rattle.syntax.proofs.start.stopped.Reads as reads
+use Rattle.syntax.proofs.start.stopped.Lts as lts
+use Rattle.rule.proofs.Atom.empty.Reads as Atom-empty-reads
+use Rattle.rule.proofs.Variables.empty.Reads as Variables-empty-reads
+
+-- src/start.rt:36:9
+empty-requires : tie.Need-empty-requires
+empty-requires c κs = search needs
+
+-- src/start.rt:37:9
+empty-requires-2 : tie.Need-empty-requires-2
+empty-requires-2 c κs = search needs
+
+-- src/start.rt:33:1
+returns : tie.Need-returns
+returns c = cc
+
+pub stopped-spec : {M : Type 1} → statement M
+stopped-spec = tie.close (tie.spec empty-requires empty-requires-2 returns)
