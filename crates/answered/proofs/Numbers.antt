@@ -3,10 +3,9 @@ use mathlib.Core.Path.{_≡_, refl, sym as inv, ap, _∙_}
 use mathlib.Core.Bool.{Bool, true, false, false≢true, _||_}
 use mathlib.Core.Logic.{_↔_}
 use mathlib.Core.List.{List}
-use Prim.Native.Nat.{ℕ, zero, suc, _<_, _≤_}
+use Prim.Native.Nat.{ℕ, suc, _≤_}
 use native.Mathlib.Decide.{ℕ-discrete}
 use native.Mathlib.Omega.{arith}
-use lib.ListN.{length}
 use Rattle.lexis.specs.declared.Place.{Place}
 use Rattle.reading.specs.Reading.{Marked}
 use Rattle.meaning.specs.Rules.{Bytes, Fact, Rule}
@@ -18,20 +17,19 @@ use Rattle.grammar.specs.Spelling.{Mark}
 use Rattle.grammar.specs.Trees.{Program}
 use Rattle.grammar.specs.Variables.{Variables}
 use Rattle.grammar.specs.Sizes.{too-big, too-long, too-many, too-many-variables, refusal, fault}
-use Rattle.grammar.specs.Abstraction.{rules-for, facts-for}
 use Rattle.report.specs.declared.word.Word.{Word}
 use Rattle.report.specs.declared.word.Word.the-variants as words
-use Rattle.stages.specs.Parts.{output, Part, start-of}
-use Rattle.stages.specs.Stage.{Outcome, on, stop, Stage, stops, goes, Refuse, given, passed, First, first, without}
+use Rattle.stages.specs.Parts.{Part}
+use Rattle.stages.specs.Stage.{Outcome, on, stop, stops, goes, given, passed, without}
 use Rattle.stages.proofs.Unique.{on-stop, on-inj}
-use Rattle.stages.proofs.Numbers.{Among, then-among, on-among, refuse-among, first-among, reads-among}
-use Rattle.program.specs.Stage.{ProgramStage}
+use Rattle.stages.proofs.Numbers.{Among, then-among, refuse-among, first-among, reads-among}
+use Rattle.program.proofs.Taken.{refused-between}
 use Rattle.output.specs.Output.{Report, facts, claim-none, claim-unknown, Opening, refuses, Closing, stray, Behind, OutputStage}
 use Rattle.answered.specs.Answer.{Answer, refused, accepted, unsatisfied, smaller, claimed-none, claimed-unknown, Result, says, result}
 use Rattle.answered.specs.Cases.{Clash, repeats, opposes, Leaves, leaves}
 use Rattle.answered.specs.Judged.{Judged, judged}
-use Rattle.answered.specs.Answered.{rule-part, fact-part, Candidate, Reported, code-of, Check, Answered}
-use Rattle.answered.specs.Refusals.{Read, Unclashing, Case, of-program, of-output, of-code, of-facts, of-room, of-range}
+use Rattle.answered.specs.Answered.{Candidate, Reported, code-of, Check, Answered}
+use Rattle.answered.specs.Refusals.{Read, Case, of-program, of-output, of-code, of-facts, of-room, of-range}
 use Rattle.answered.proofs.Unique.{check-one}
 
 is-refusal : Answer → Bool
@@ -45,23 +43,17 @@ is-refusal claimed-unknown = false
 same-number : (m n : ℕ) → ¬ ¬ (m ≡ n) → m ≡ n
 same-number m n d = elim (ℕ-discrete m n) [ yes e ↦ e | no f ↦ absurd (d f) ]
 
--- ---- the numbers of each stage
+-- ---- the numbers of each stage; those of a program are `refused-between`
 
-fault-numbers : (ground : Bool) (vs : Variables) (x : Marked Token Mark) (n : ℕ) → fault ground vs x ≡ suc n → (3 ≤ suc n) × (suc n ≤ 4)
+fault-numbers : (vs : Variables) (x : Marked Token Mark) (n : ℕ) → fault true vs x ≡ suc n → (3 ≤ suc n) × (suc n ≤ 4)
 unfolding fault refusal
-fault-numbers ground vs x n e = go (too-big (x .token)) (too-long (x .token) || too-many ground (x .mark) || too-many-variables vs (x .token)) e
+fault-numbers vs x n e = go (too-big (x .token)) (too-long (x .token) || too-many true (x .mark) || too-many-variables vs (x .token)) e
   where
     go : (big other : Bool) → refusal big other ≡ suc n → (3 ≤ suc n) × (suc n ≤ 4)
     go true true e = (omega arith, omega arith)
     go true false e = (omega arith, omega arith)
     go false true e = (omega arith, omega arith)
     go false false e = absurd (omega arith)
-
-pub program-among : (text : Bytes) → Among 1 5 (ProgramStage text)
-program-among text =
-    then-among 1 5 _ _ (refuse-among 1 5 _ _ _ (omega arith) (omega arith)) (λ u.
-    then-among 1 5 _ _ (reads-among 1 5 _ _ _ _ (omega arith) (omega arith) (λ vs x n e. let z = fault-numbers false vs x n e in (omega (arith, z .0), omega (arith, z .1)))) (λ c.
-    then-among 1 5 _ _ (first-among 1 5 _ _ (λ i n z. (omega (arith, z .number), omega (arith, z .number)))) (λ v. on-among 1 5 c)))
 
 opening-among : (text : Bytes) → Among 1 4 (Opening text)
 opening-among text n p (refuses q h) = (omega arith, omega arith)
@@ -71,11 +63,11 @@ closing-among a text at n p (stray line h) = (omega arith, omega arith)
 
 behind-among : (text : Bytes) (word : Word) (line : Place) (next : ℕ) → Among 1 4 (Behind text word line next)
 behind-among text words.Answer line next =
-    then-among 1 4 _ _ (reads-among 1 4 _ _ _ _ (omega arith) (omega arith) (λ vs x n e. let z = fault-numbers true vs x n e in (omega (arith, z .0), omega (arith, z .1)))) (λ fs. closing-among (facts line fs) text next)
+    then-among 1 4 _ _ (reads-among 1 4 _ _ _ _ (omega arith) (omega arith) (λ vs x n e. let z = fault-numbers vs x n e in (omega (arith, z .0), omega (arith, z .1)))) (λ fs. closing-among (facts line fs) text next)
 behind-among text words.Inconsistent line next = closing-among claim-none text next
 behind-among text words.Unknown line next = closing-among claim-unknown text next
 
-pub output-among : (text : Bytes) → Among 1 4 (OutputStage text)
+output-among : (text : Bytes) → Among 1 4 (OutputStage text)
 output-among text =
     then-among 1 4 _ _ (refuse-among 1 4 _ _ _ (omega arith) (omega arith)) (λ u.
     then-among 1 4 _ _ (opening-among text) (λ o. behind-among text (o .word) (o .line) (o .next)))
@@ -161,7 +153,7 @@ module _ (the-program the-output : Bytes) (code : ℕ) (places : List ℕ) where
 
   -- and its number is one of 1 to 10
   pub numbers : (n : ℕ) (p : Part) → Here n p → (1 ≤ n) × (n ≤ 10)
-  numbers n p (of-program _ _ h) = let z = program-among the-program n p h in (z .0, omega (arith, z .1))
+  numbers n p (of-program _ _ h) = let z = refused-between the-program n p h in (z .0, omega (arith, z .1))
   numbers n p (of-output c h _ _ k) = let z = output-among the-output n p k in (z .0, omega (arith, z .1))
   numbers n p (of-code c h r k differs) = (omega arith, omega arith)
   numbers n p (of-facts c line fs r _ _ h) = let z = first-among 6 7 _ _ (clash-among _) n p h in (omega (arith, z .0), omega (arith, z .1))
