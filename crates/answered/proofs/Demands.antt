@@ -1,6 +1,6 @@
 -- The third demand, of bytes: for a program and a candidate that are read, with room and nothing out of range, the answer accepts
 -- exactly where the plain definition does, and what it shows is what the demand says.
-use mathlib.Core.Path.{_≡_, refl, sym as inv, ap, _∙_}
+use mathlib.Core.Path.{_≡_, ap}
 use mathlib.Core.Bool.{Bool, true, false}
 use mathlib.Core.Logic.{_↔_}
 use mathlib.Core.List.{List, _++_}
@@ -17,12 +17,12 @@ use Rattle.meaning.proofs.Settled.{first-breaks, not-both}
 use Rattle.meaning.proofs.Values.{value-laws}
 use Rattle.grammar.specs.Trees.{Program}
 use Rattle.grammar.specs.Abstraction.{rules-for, facts-for}
-use Rattle.stages.specs.Stage.{Outcome, on, stop, goes, passed, given, without, first}
+use Rattle.stages.specs.Stage.{Outcome, passed, without}
 use Rattle.stages.proofs.Unique.{then-on, refuse-one, first-one}
 use Rattle.program.proofs.Unique.{program-one}
 use Rattle.output.specs.Output.{facts}
 use Rattle.output.proofs.Unique.{output-one}
-use Rattle.answered.specs.Answer.{Answer, refused, accepted, unsatisfied, smaller, claimed-none, claimed-unknown, Result, positions, says, result}
+use Rattle.answered.specs.Answer.{Answer, accepted, unsatisfied, smaller, Result, positions, says, result}
 use Rattle.answered.specs.Judged.{Judged, judged}
 use Rattle.answered.specs.Answered.{Answered}
 use Rattle.answered.specs.Ready.{Ready}

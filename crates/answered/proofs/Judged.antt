@@ -1,24 +1,22 @@
 -- The outcome of the meaning is what the last stages answer, and no other.
-use mathlib.Core.Path.{_≡_, refl, sym as inv, ap, _∙_}
+use mathlib.Core.Path.{_≡_, ap}
 use mathlib.Core.Logic.{_⊎_, inl, inr}
-use mathlib.Core.Option.{some}
 use mathlib.Core.List.{List}
-use Prim.Native.Nat.{ℕ, suc, _-_, _<_, _≤_}
+use Prim.Native.Nat.{ℕ, _-_, _<_, _≤_}
 use native.Mathlib.Omega.{arith}
-use lib.ListN.{getElem?}
 use Rattle.meaning.specs.Rules.{Fact, Rule}
 use Rattle.meaning.specs.Values.{Value, values, in-range}
 use Rattle.meaning.specs.Matchings.{OverflowAt, _≼_}
 use Rattle.meaning.specs.Matchings as meant
-use Rattle.meaning.specs.Outcomes.{Answers, out-of-range, verdict, MeansOutOfRange}
+use Rattle.meaning.specs.Outcomes.{Answers, out-of-range, verdict}
 use Rattle.meaning.specs.Outcomes as outcomes
 use Rattle.meaning.proofs.Settled.{means-unique}
 use Rattle.meaning.proofs.Values.{value-laws}
 use Rattle.meaning.proofs.Sets.{at-in}
 use Rattle.stages.specs.Parts.{Part}
-use Rattle.stages.specs.Stage.{Outcome, on, stop, Stage, stops, goes, First, first, without}
+use Rattle.stages.specs.Stage.{Outcome, on, stops, goes, First, first, without}
 use Rattle.stages.proofs.Unique.{One, then-one, first-one}
-use Rattle.answered.specs.Answer.{Result, says}
+use Rattle.answered.specs.Answer.{says}
 use Rattle.answered.specs.Cases.{Leaves, leaves}
 use Rattle.answered.specs.Judged.{Judged, judged, Settled, settles}
 

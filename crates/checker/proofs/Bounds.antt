@@ -1,11 +1,10 @@
 -- The rule and the positions of the first broken instance stand in the program and in the candidate, so there is room to count them from 1.
-use mathlib.Core.Path.{_≡_, refl, sym, ap, _∙_}
-use mathlib.Core.Option.{some}
+use mathlib.Core.Path.{_≡_, refl, sym}
 use mathlib.Core.List.{List, [], _∷_, map}
-use Prim.Native.Nat.{ℕ, zero, suc, _<_, _≤_, min}
+use Prim.Native.Nat.{ℕ, zero, suc, _<_, _≤_}
 use native.Mathlib.Nat.{suc-inj}
 use native.Mathlib.Omega.{arith}
-use lib.ListN.{length, getD, getElem?, take, length-take}
+use lib.ListN.{length, getD, take, length-take}
 use lib.Seq.{getD-take}
 use Rattle.meaning.specs.Rules.{Term, Atom, Fact, Rule}
 use Rattle.meaning.specs.Values.{Value, values, in-range}

@@ -8,7 +8,7 @@ use Prim.Native.Nat.{ℕ, zero, suc, _+_, _<_, _≤_}
 use native.Mathlib.Decide.{decLt, ℕ-discrete}
 use native.Mathlib.Omega.{arith}
 use lib.ListN.{length, getElem?}
-use Rattle.meaning.specs.Rules.{Bytes, Atom, Fact}
+use Rattle.meaning.specs.Rules.{Bytes, Fact}
 use Rattle.meaning.specs.Values.{Value, values}
 use Rattle.meaning.specs.Instances.{same-fact}
 use Rattle.meaning.proofs.Booleans.{none-some, some-inj}

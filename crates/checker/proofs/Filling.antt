@@ -1,16 +1,16 @@
 -- The tables that are filled stand for the program and the candidate.
-use mathlib.Core.Path.{_≡_, refl, sym, ap, _∙_}
+use mathlib.Core.Path.{_≡_, ap, _∙_}
 use mathlib.Core.Bool.{true, false}
-use mathlib.Core.List.{List, [], _++_}
-use Prim.Native.Nat.{ℕ, _+_, _*_, _≤_}
+use mathlib.Core.List.{List, _++_}
+use Prim.Native.Nat.{ℕ, _*_, _≤_}
 use native.Mathlib.Omega.{arith}
-use lib.ListN.{length, length-append}
+use lib.ListN.{length}
 use Rattle.lexis.specs.declared.Place.{Place}
 use Rattle.lexis.specs.Tokens.{part}
 use Rattle.reading.specs.Reading.{tree}
-use Rattle.meaning.specs.Rules.{Bytes, Fact, Rule}
+use Rattle.meaning.specs.Rules.{Bytes, Rule}
 use Rattle.meaning.specs.Values.{Value}
-use Rattle.grammar.specs.Trees.{count, Program}
+use Rattle.grammar.specs.Trees.{Program}
 use Rattle.grammar.specs.Abstraction.{rules-for, facts-for}
 use Rattle.syntax.specs.Text.{placed-from, end-of}
 use Rattle.syntax.specs.Programs.{ReadAs}
@@ -21,18 +21,13 @@ use Rattle.program.proofs.Taken.{read-is-read}
 use Rattle.program.proofs.Safe.{read-is-safe}
 use Rattle.output.specs.Output.{Report, OutputStage}
 use Rattle.output.proofs.Uses.{handed-on}
-use Rattle.codes.specs.Codes.{Coded}
-use Rattle.codes.specs.Predicates.{CodedName}
-use Rattle.codes.specs.Related.{Pairwise, RelatedAtom, RelatedRule}
 use Rattle.codes.proofs.Pairwise.{pairwise-more}
 use Rattle.codes.proofs.Names.{coded-rule-more}
-use Rattle.names.specs.Table.{names-of, Table}
+use Rattle.names.specs.Table.{names-of}
 use Rattle.names.specs.Numbering.{Empty}
-use Rattle.tables.specs.Rows.{rules-of}
-use Rattle.rows.specs.Growth.{Room, Grows}
+use Rattle.rows.specs.Growth.{Grows}
 use Rattle.filling.specs.Rules.{FillableRules, FillsRules}
 use Rattle.factrows.specs.Filled.{Fillable, Filled}
-use Rattle.checker.specs.Checked.{BothRead}
 use Rattle.checker.specs.Standing.{RulesStand, RulesHeld, Held, WithFacts, WithRules}
 
 module _ (program output : Bytes) where

@@ -1,13 +1,13 @@
 -- A judgement over the tables, and the answer that it gives, are those of the last stages: 8, or the verdict.
 use mathlib.Core.Path.{_≡_, refl, sym, ap, _∙_}
-use mathlib.Core.Bool.{Bool, true, false}
-use mathlib.Core.List.{List, [], _∷_, _++_, map}
-use Prim.Native.Nat.{ℕ, zero, suc, _+_, _-_, _<_, _≤_, min}
+use mathlib.Core.Bool.{Bool, false}
+use mathlib.Core.List.{List, _++_}
+use Prim.Native.Nat.{ℕ, zero, suc, _+_, _-_, _<_, _≤_}
 use native.Mathlib.Decide.{decLt}
 use native.Mathlib.Numerals.{add-one}
 use native.Mathlib.Omega.{arith}
 use lib.ListN.{length, getD, take, drop, take-append-drop, length-take, length-drop}
-use lib.Seq.{ext-getD, getD-drop, getD-take}
+use lib.Seq.{ext-getD, getD-drop}
 use Rattle.meaning.specs.Rules.{Bytes, Fact, Rule}
 use Rattle.meaning.specs.Values.{Value, values, in-range}
 use Rattle.meaning.specs.Outcomes as meant
@@ -19,7 +19,6 @@ use Rattle.judge.specs.declared.Judgement.{Judgement}
 use Rattle.judge.specs.declared.Kind.{Kind}
 use Rattle.judge.specs.declared.Kind.the-variants.{OutOfRange, Unsatisfied, Accepted, Smaller}
 use Rattle.judge.specs.Judged.{said, Lent, NoneBehind}
-use Rattle.stages.specs.Stage.{Outcome, on, stop}
 use Rattle.answered.specs.Answer as paper
 use Rattle.answered.specs.Judged.{Settled, settles}
 use Rattle.answered.specs.Answered.{rule-part}

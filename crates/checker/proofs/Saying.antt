@@ -11,7 +11,7 @@ use Rattle.derived.specs.Members.{places, holds}
 use Rattle.derived.specs.declared.Derived.{Derived}
 use Rattle.derived.proofs.Words.{zeros-hold-none}
 use Rattle.tables.specs.Rows.{from}
-use Rattle.answered.specs.Answer.{Fields, positions}
+use Rattle.answered.specs.Answer.{positions}
 use Rattle.answered.specs.Answer as paper
 use Rattle.checker.specs.declared.answer.Text.{Text}
 use Rattle.checker.specs.declared.answer.Kind.the-variants.{ClaimedNone, ClaimedUnknown}

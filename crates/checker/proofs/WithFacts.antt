@@ -21,7 +21,7 @@ use Rattle.checker.specs.declared.answer.Text.the-variants.{Output}
 use Rattle.checker.specs.declared.answer.Answer.{Answer}
 use Rattle.checker.specs.Values.{refused}
 use Rattle.checker.specs.Checked.{Answers}
-use Rattle.checker.specs.Standing.{OnLine, Held, Stands, Settling, Behind, WithFacts}
+use Rattle.checker.specs.Standing.{OnLine, Held, Settling, Behind, WithFacts}
 use Rattle.checker.proofs.Clashing.{counted, first-clashes, none-clashes}
 use Rattle.checker.proofs.Ways.{refuses}
 

@@ -1,6 +1,5 @@
 -- What an answer by value says: the paper's numbers and values of each kind.
 use mathlib.Core.Path.{_≡_}
-use mathlib.Core.List.{List}
 use lib.ListN.{take}
 use Rattle.lexis.specs.Tokens.{part}
 use Rattle.meaning.specs.Rules.{Bytes}

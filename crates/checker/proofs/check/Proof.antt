@@ -1,5 +1,4 @@
 -- `check` meets its contract: its ways are those of the stages, one after the other. Assumes nothing.
-use mathlib.Core.Path.{sym as inv, _∙_}
 use borrow.Author.Needs.{needs}
 use Rattle.checker.proofs.Ways.{by-program, by-output, by-code, by-none, by-unknown, both-read, by-candidate}
 use Rattle.checker.proofs.check.Statement.{statement}

@@ -1,6 +1,5 @@
 -- `settled` meets its contract: the judgement over the tables, and the answer that it gives. Assumes nothing.
 use mathlib.Core.Path.{_≡_}
-use native.Mathlib.Omega.{arith}
 use lib.ListN.{length}
 use borrow.Author.Needs.{needs}
 use Rattle.checker.proofs.Settling.{judgeable, room-to-count, gives}

@@ -1,5 +1,4 @@
 -- `verdict` meets its contract, kind by kind. Assumes nothing.
-use mathlib.Core.Path.{sym, ap}
 use native.Mathlib.Omega.{arith}
 use borrow.Author.Needs.{needs}
 use Rattle.checker.proofs.Telling.{tells-range, tells-broken, tells-accepted, tells-smaller}
