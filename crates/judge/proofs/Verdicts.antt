@@ -23,7 +23,7 @@ use Rattle.codes.specs.Domains.{codes, code-in-range}
 use Rattle.tables.specs.Rows.{from, fact-at, facts-of}
 use Rattle.tables.proofs.Strides.{from-length}
 use Rattle.derived.specs.declared.Derived.{Derived}
-use Rattle.derived.specs.Members.{holds, one-if, count}
+use Rattle.derived.specs.Members.{places, holds, one-if, count, size}
 use Rattle.pass.specs.Passed.{Passed}
 use Rattle.pass.specs.declared.Pass.{Pass}
 use Rattle.reach.proofs.Graphs.{below-fact}
@@ -75,6 +75,16 @@ count-full f (suc n) h a k = go (f n) refl h (decLt a n) (λ l m. count-full f n
     go true e l (yes m) r = r (omega arith) m
     go true e l (no m) r = let z : a ≡ n = omega arith in rw z e
     go false e l m r = absurd (omega (arith, count-most f n))
+
+count-past : (f : ℕ → Bool) (n m : ℕ) → ((a : ℕ) → n ≤ a → f a ≡ false) → count f (n + m) ≡ count f n
+unfolding count one-if
+count-past f n zero h = let e : n + 0 ≡ n = omega arith in rw e
+count-past f n (suc m) h = let e : n + suc m ≡ suc (n + m) = omega arith in rw (e, count, h (n + m) (omega arith)) (omega (arith, count-past f n m h))
+
+-- a set with no atom from place n on has as many as stand below
+size-below : (s : Derived) (n : ℕ) → n ≤ places → ((a : ℕ) → n ≤ a → holds s a ≡ false) → size s ≡ count (holds s) n
+unfolding size
+size-below s n few clear = let e : places ≡ n + (places - n) = omega arith in ap (count (holds s)) e ∙ count-past (holds s) n (places - n) clear
 
 -- ---- the outcome
 
@@ -133,30 +143,30 @@ module _ (names : List Bytes) (P : List (Rule ℕ)) (facts : List ℕ) (n : ℕ)
     judged-broken h b k e l q = record { says = rw (k, said, e, l, q) (outcome-broken names P I (passed .in-range h) (p .rule) (take (p .length) (p .positions)) (rw b at (passed .first-broken h))); lent = rw (k, Lent) refl; none-behind = rw (k, NoneBehind) tt }
 
   -- the rounds decide
-  module _ (in-range : overflow (codes names) code-in-range P I ≡ none) (unbroken : broken (codes names) P I ≡ none) (table table′ : List ℕ) (set : Derived) (k t : ℕ) (found : RoundsOf (codes names) P I table table′ set k t) where
-    size : t ≡ count (holds set) n
-    size = found .size ∙ rw long refl
+  module _ (in-range : overflow (codes names) code-in-range P I ≡ none) (unbroken : broken (codes names) P I ≡ none) (table table′ : List ℕ) (set : Derived) (k t : ℕ) (found : RoundsOf (codes names) P I table table′ set k t) (few : n ≤ places) where
+    sized : size set ≡ count (holds set) n
+    sized = size-below set n few (λ a h. found .none a (omega (arith, long, h)))
 
     at-place : (a : ℕ) → a < n → holds set a ≡ levels k (fact-at facts a)
     at-place a h = found .is-set a (fact-at facts a) (below-fact facts n a h)
 
-    whole : n ≤ t → every (levels k) I ≡ true
-    whole h = every-from (levels k) (fact-at facts) n 0 (λ i a b. sym (at-place i (omega arith)) ∙ count-full (holds set) n (omega (arith, size)) i (omega arith))
+    whole : n ≤ size set → every (levels k) I ≡ true
+    whole h = every-from (levels k) (fact-at facts) n 0 (λ i a b. sym (at-place i (omega arith)) ∙ count-full (holds set) n (omega (arith, sized)) i (omega arith))
 
-    not-whole : t < n → every (levels k) I ≡ false
+    not-whole : size set < n → every (levels k) I ≡ false
     not-whole h = go (every (levels k) I) refl
       where
         go : (b : Bool) → every (levels k) I ≡ b → b ≡ false
         go false e = refl
-        go true e = absurd (omega (arith, size, count-all (holds set) n (λ a l. at-place a l ∙ every-in (levels k) I (fact-at facts a) (at-in I a (fact-at facts a) (below-fact facts n a l)) e)))
+        go true e = absurd (omega (arith, sized, count-all (holds set) n (λ a l. at-place a l ∙ every-in (levels k) I (fact-at facts a) (at-in I a (fact-at facts a) (below-fact facts n a l)) e)))
 
-    pub judged-smaller : t < n → (rounds : List ℕ) (j : Judgement) → j .kind ≡ Smaller → j .set ≡ set → Judged names P I rounds rounds j
+    pub judged-smaller : size set < n → (rounds : List ℕ) (j : Judgement) → j .kind ≡ Smaller → j .set ≡ set → Judged names P I rounds rounds j
     unfolding said Lent NoneBehind
     judged-smaller h rounds j e s =
         let kept : from (holds set) (length I) 0 ≡ map (levels k) I = ap (λ (m : ℕ). from (holds set) m 0) long ∙ from-same (holds set) (λ i. levels k (fact-at facts i)) n 0 (λ i a b. at-place i (omega arith)) ∙ sym (map-from (levels k) (fact-at facts) n 0) in
         record { says = rw (e, said, s, kept) (rw (← found .is-rounds) at (outcome-smaller names P I in-range unbroken (rw (← found .is-rounds) (not-whole h)))); lent = rw (e, Lent) refl; none-behind = rw (e, NoneBehind, s) (λ a l. found .none a l) }
 
-    module _ (h : n ≤ t) (rounds rounds′ : List ℕ) (copied : Copied table′ rounds rounds′) (wide : length table ≡ n) (room : n ≤ length rounds) where
+    module _ (h : n ≤ size set) (rounds rounds′ : List ℕ) (copied : Copied table′ rounds rounds′) (wide : length table ≡ n) (room : n ≤ length rounds) where
       abbrev round : Fact ℕ → ℕ
       round a = least (λ i. levels i a) k 0
 
@@ -164,7 +174,7 @@ module _ (names : List Bytes) (P : List (Rule ℕ)) (facts : List ℕ) (n : ℕ)
       written =
           ap (λ (m : ℕ). take m rounds′) long
           ∙ part-from rounds′ n 0 (omega (arith, copied .long))
-          ∙ from-same (λ i. getD rounds′ i 0) (λ i. round (fact-at facts i)) n 0 (λ i a b. copied .there i (omega (arith, found .long)) ∙ found .each i (fact-at facts i) (below-fact facts n i (omega arith)) (count-full (holds set) n (omega (arith, size)) i (omega arith)))
+          ∙ from-same (λ i. getD rounds′ i 0) (λ i. round (fact-at facts i)) n 0 (λ i a b. copied .there i (omega (arith, found .long)) ∙ found .each i (fact-at facts i) (below-fact facts n i (omega arith)) (count-full (holds set) n (omega (arith, sized)) i (omega arith)))
           ∙ sym (map-from round (fact-at facts) n 0)
 
       pub judged-accepted : (j : Judgement) → j .kind ≡ Accepted → j .rounds ≡ k → Judged names P I rounds rounds′ j

@@ -71,7 +71,7 @@ fn derived_verdict<'a>(
         table,
     );
     let set = limit.set;
-    if limit.size < count {
+    if set.size() < count {
         return Judgement {
             kind: Kind::Smaller,
             rule: 0,
