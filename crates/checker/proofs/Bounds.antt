@@ -13,11 +13,11 @@ use Rattle.meaning.specs.Instances.{Substitution}
 use Rattle.meaning.specs.Matchings.{Placed}
 use Rattle.meaning.specs.Verdicts.{Means, MeansUnsatisfied}
 use Rattle.meaning.specs.Outcomes.{Answers}
+use Rattle.codes.proofs.Pairwise.{within}
 use Rattle.judge.specs.declared.Judgement.{Judgement}
 use Rattle.judge.specs.declared.Kind.the-variants.{Unsatisfied}
 use Rattle.judge.specs.Judged.{said}
 use Rattle.checker.specs.Told.{Small}
-use Rattle.checker.proofs.Clashing.{within}
 
 -- facts at positions stand in the list
 placed-below : (I : List (Fact Value)) (σ : Substitution Value) (ats : List (Atom (Term Value))) (ps : List ℕ) → Placed I σ ats ps → (i : ℕ) → i < length ps → getD ps i 0 < length I

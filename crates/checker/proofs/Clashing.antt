@@ -3,22 +3,22 @@ use mathlib.Core.Path.{_≡_, refl, sym, ap, _∙_}
 use mathlib.Core.Bool.{Bool, true, false, not}
 use mathlib.Core.Logic.{_⊎_, inl, inr}
 use mathlib.Core.Option.{some}
-use mathlib.Core.List.{List, [], _∷_}
-use Prim.Native.Nat.{ℕ, zero, suc, _+_, _<_, _≤_}
+use mathlib.Core.List.{List}
+use Prim.Native.Nat.{ℕ, _+_, _<_, _≤_}
 use native.Mathlib.Decide.{decLt, ℕ-discrete}
 use native.Mathlib.Omega.{arith}
 use lib.ListN.{length, getElem?}
 use Rattle.meaning.specs.Rules.{Bytes, Fact}
 use Rattle.meaning.specs.Values.{Value, values}
 use Rattle.meaning.specs.Instances.{same-fact}
-use Rattle.meaning.proofs.Booleans.{none-some, some-inj}
+use Rattle.meaning.proofs.Booleans.{some-inj}
 use Rattle.meaning.proofs.Facts.{same-fact-test}
 use Rattle.meaning.proofs.Values.{value-laws}
 use Rattle.codes.specs.Codes.{Distinct, Coded}
 use Rattle.codes.specs.Predicates.{CodedName}
 use Rattle.codes.specs.Domains.{codes}
-use Rattle.codes.specs.Related.{Pairwise, end, pair, RelatedAtom}
-use Rattle.codes.proofs.Pairwise.{same-length}
+use Rattle.codes.specs.Related.{Pairwise, RelatedAtom}
+use Rattle.codes.proofs.Pairwise.{same-length, within, at-right}
 use Rattle.codes.proofs.Matches.{same-facts}
 use Rattle.codes.proofs.Coded.{coded-domain, code-laws}
 use Rattle.tables.specs.Rows.{fact-at, facts-of}
@@ -30,19 +30,6 @@ use Rattle.clashes.specs.Clashes as clashes
 use Rattle.stages.specs.Parts.{Part}
 use Rattle.stages.specs.Stage.{stop, First, first}
 use Rattle.answered.specs.Cases.{opposite, Clash, repeats, opposes}
-
--- ---- related lists, place by place
-
-module _ {A B : Type 0} {R : A → B → Type 0} where
-  pub at-left : {xs : List A} {ys : List B} → Pairwise R xs ys → (i : ℕ) {y : B} → getElem? ys i ≡ some y → (x : A) × (getElem? xs i ≡ some x) × R x y
-  at-left end i e = absurd (none-some e)
-  at-left (pair {a} {b} r rs) zero e = (a, refl, rw (some-inj e) at r)
-  at-left (pair r rs) (suc i) e = at-left rs i e
-
-  pub at-right : {xs : List A} {ys : List B} → Pairwise R xs ys → (i : ℕ) {x : A} → getElem? xs i ≡ some x → (y : B) × (getElem? ys i ≡ some y) × R x y
-  at-right end i e = absurd (none-some e)
-  at-right (pair {a} {b} r rs) zero e = (b, refl, rw (some-inj e) at r)
-  at-right (pair r rs) (suc i) e = at-right rs i e
 
 -- ---- the same fact
 
@@ -60,11 +47,6 @@ module _ (names : List Bytes) (table : Distinct names) where
   equal-coded a b v w p q e = same-coded a b v w p q ∙ rw e (same-fact-test values value-laws .self w)
 
 -- ---- an earlier fact that is the same, or the same with the other sign
-
-pub within : {A : Type 0} (l : List A) (i : ℕ) {a : A} → getElem? l i ≡ some a → i < length l
-within [] i e = absurd (none-some e)
-within (x ∷ xs) zero e = omega arith
-within (x ∷ xs) (suc i) e = let h = within xs i e in omega arith
 
 twice-turned : (a : Fact Value) → opposite (opposite a) ≡ a
 twice-turned a = ap (λ (b : Bool). record { negative = b; name = a .name; arguments = a .arguments }) (twice (a .negative))

@@ -1,13 +1,14 @@
 -- Laws of things at fixed strides: `from`, members by place, and parts.
 use mathlib.Core.Path.{_≡_, refl, sym, ap, _∙_}
-use mathlib.Core.Logic.{_⊎_, inl, inr}
-use mathlib.Core.Option.{Option, none, some}
-use mathlib.Core.List.{List, [], _∷_, _++_, map}
+use mathlib.Core.Logic.{inl, inr}
+use mathlib.Core.Option.{some}
+use mathlib.Core.List.{List, [], _∷_, map}
 use Prim.Native.Nat.{ℕ, zero, suc, _+_, _-_, _≤_, _<_}
 use native.Mathlib.Omega.{arith}
 use lib.ListN.{length, getD, getElem?, take, drop, length-drop}
 use lib.Seq.{length-take-le}
 use Rattle.meaning.specs.Sets.{In}
+use Rattle.codes.proofs.Pairwise.{within}
 use Rattle.tables.specs.Rows.{from}
 
 pub from-length : {A : Type 0} (f : ℕ → A) (n k : ℕ) → length (from f n k) ≡ n
@@ -20,6 +21,9 @@ unfolding from
 from-at f zero k i h = absurd (omega arith)
 from-at {A} f (suc n) k zero h = let e : k + 0 ≡ k = omega arith in ap (λ (j : ℕ). some (f j)) (sym e)
 from-at {A} f (suc n) k (suc i) h = let e : suc k + i ≡ k + suc i = omega arith in from-at f n (suc k) i (omega arith) ∙ ap (λ (j : ℕ). some (f j)) e
+
+pub from-below : {A : Type 0} (f : ℕ → A) (n k i : ℕ) {a : A} → getElem? (from f n k) i ≡ some a → i < n
+from-below f n k i e = rw (from-length f n k) at (within (from f n k) i e)
 
 -- where something is left, the first of it stands at k
 pub from-more : {A : Type 0} (f : ℕ → A) (n k : ℕ) → k < n → from f (n - k) k ≡ f k ∷ from f (n - suc k) (suc k)
