@@ -3,12 +3,12 @@ use mathlib.Core.Path.{_≡_, refl, sym, ap, _∙_}
 use mathlib.Core.Logic.{_⊎_, inl, inr}
 use mathlib.Core.Option.{some}
 use mathlib.Core.List.{List, [], _∷_, _++_}
-use Prim.Native.Nat.{ℕ, zero, suc, _+_}
+use Prim.Native.Nat.{ℕ, zero, suc}
 use lib.ListN.{length, getElem?}
 use Rattle.meaning.specs.Rules.{Bytes, Fact, Rule}
-use Rattle.meaning.specs.Values.{Value, name}
+use Rattle.meaning.specs.Values.{Value}
 use Rattle.meaning.proofs.Booleans.{none-some, some-inj}
-use Rattle.codes.specs.Codes.{first-name, Distinct, Coded, as-blank, as-number, as-name}
+use Rattle.codes.specs.Codes.{Distinct, Coded, as-blank, as-number, as-name}
 use Rattle.codes.specs.Predicates.{CodedName}
 use Rattle.codes.specs.Related.{RelatedAtom, RelatedRule}
 use Rattle.codes.proofs.Wider.{wider-fact, wider-rule}
@@ -42,10 +42,7 @@ module _ (names : List Bytes) (new : Bytes) where
       nonempty i (inl e) = table .nonempty i e
       nonempty i (inr e) = h (e .1)
 
-  -- the new name's code, and its place as the name of a predicate
-  pub coded-new : Coded (names ++ (new ∷ [])) (first-name + length names) (name new)
-  coded-new = as-name (length names) refl (last-at names new)
-
+  -- the new name's place as the name of a predicate
   pub coded-name-new : CodedName (names ++ (new ∷ [])) (length names ∷ []) new
   coded-name-new = record { place = length names; is-place = refl; is-name = last-at names new }
 
