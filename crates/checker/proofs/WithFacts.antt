@@ -29,9 +29,9 @@ module _ (program output : Bytes) (line : Place) (names rules literals facts : L
   abbrev named : List Bytes
   named = names-of program output names
 
-  -- a fact that clashes stands on the line
-  pub on-line-fact : WithFacts program output line names rules literals facts count total → (r .number ≡ 0 → ⊥) → OnLine output line count (r .fact)
-  on-line-fact w z = record { size = w .size; inside = w .inside; few = w .held .fact-table .few; below = found named .here z .0 }
+  -- a fact that clashes stands on the line, and so does each before it
+  pub on-line-fact : WithFacts program output line names rules literals facts count total → (r .number ≡ 0 → ⊥) → (k : ℕ) → k ≤ r .fact → OnLine output line count k
+  on-line-fact w z k l = record { size = w .size; inside = w .inside; few = w .held .fact-table .few; below = omega (arith, found named .here z .0, l) }
 
   module _ (places : List ℕ) (P : List (Rule Value)) (I : List (Fact Value)) (h : Held program output names rules literals facts count total P I) where
     abbrev Here : Answer → List ℕ → Type 0

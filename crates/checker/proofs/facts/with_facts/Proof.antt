@@ -1,4 +1,5 @@
 -- `with_facts` meets its contract: its ways are those of the stages. Assumes nothing.
+use native.Mathlib.Omega.{arith}
 use borrow.Author.Needs.{needs}
 use Rattle.checker.proofs.WithFacts.{on-line-fact, by-clash, by-room, by-stages, settling}
 use Rattle.checker.proofs.facts.with_facts.Statement.{statement}
@@ -20,7 +21,7 @@ first-clash-requires : tie.Need-first-clash-requires
 first-clash-requires c κs = (c .before .before .before .before .before .before .before .before .before .before .before .before .pre .held .fact-table, c .before .before .build .ensures)
 
 fact-part-requires : tie.Need-fact-part-requires
-fact-part-requires c κs = on-line-fact _ _ _ _ _ _ _ _ _ _ (c .before .before .first-clash .ensures) (c .before .before .before .before .before .before .before .before .before .before .before .before .before .before .before .pre) (c .if1 .taken)
+fact-part-requires c κs = on-line-fact _ _ _ _ _ _ _ _ _ _ (c .before .before .first-clash .ensures) (c .before .before .before .before .before .before .before .before .before .before .before .before .before .before .before .pre) (c .if1 .taken) _ (omega arith)
 
 refused-requires : tie.Need-refused-requires
 refused-requires c κs = search needs
