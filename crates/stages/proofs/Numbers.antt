@@ -1,12 +1,10 @@
 -- Which numbers of refusal a stage gives.
-use mathlib.Core.Path.{_≡_, refl}
+use mathlib.Core.Path.{_≡_}
 use mathlib.Core.List.{List}
 use Prim.Native.Nat.{ℕ, suc, _≤_}
-use native.Mathlib.Omega.{arith}
 use Rattle.reading.specs.Reading.{Marked, Placed, Language, wrong, short, over}
 use Rattle.stages.specs.Parts.{Part}
-use Rattle.stages.specs.Stage.{Outcome, on, stop, Stage, stops, goes, _⟫_, Is, Refuse, given, First, first, Reads, fault}
-use Rattle.stages.proofs.Unique.{on-stop}
+use Rattle.stages.specs.Stage.{stop, Stage, stops, goes, _⟫_, Refuse, given, First, first, Reads, fault}
 
 -- its numbers lie from low to high
 abbrev pub Among : {A : Type 0} → ℕ → ℕ → Stage A → Type 0
@@ -16,13 +14,6 @@ module _ (low high : ℕ) where
   pub then-among : {A B : Type 0} (S : Stage A) (T : A → Stage B) → Among low high S → ((a : A) → Among low high (T a)) → Among low high (S ⟫ T)
   then-among S T s t n p (stops _ _ h) = s n p h
   then-among S T s t n p (goes a _ h k) = t a n p k
-
-  -- a stage that hands on never refuses
-  pub on-among : {A : Type 0} (a : A) → Among low high (Is (on a))
-  on-among a n p h = absurd (on-stop {p = p} (go h))
-    where
-      go : stop n p ≡ on a → on a ≡ stop n p
-      go e = cc
 
   pub refuse-among : (m : ℕ) (q : Part) (C : Type 0) → low ≤ m → m ≤ high → Among low high (Refuse m q C)
   refuse-among m q C l h n p (given c) = (l, h)

@@ -8,7 +8,7 @@ use native.Mathlib.Nat.{le-antisymm}
 use native.Mathlib.Omega.{arith}
 use Rattle.reading.specs.Reading.{Placed, Language, Answer, tree, refused, Reading}
 use Rattle.stages.specs.Parts.{Part}
-use Rattle.stages.specs.Stage.{Outcome, on, stop, Stage, Then, stops, goes, _⟫_, Is, Refuse, given, passed, First, first, without, Reads, read, fault}
+use Rattle.stages.specs.Stage.{Outcome, on, stop, Stage, stops, goes, _⟫_, Is, Refuse, given, passed, First, first, without, Reads, read, fault}
 
 -- at most one
 abbrev pub One : {A : Type 0} → (A → Type 0) → Type 0
