@@ -1,0 +1,4 @@
+pub mod Growth
+pub mod Forcing
+pub mod Forgetting
+pub mod Passing
