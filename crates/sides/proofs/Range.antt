@@ -1,27 +1,24 @@
 -- When a literal's operation leaves the range, by the code of its right side.
 use mathlib.Core.Path.{_≡_, refl, sym, ap, _∙_}
 use mathlib.Core.Bool.{Bool, true, false, not, _||_, cond, true≢false}
-use mathlib.Core.Option.{Option, none, some}
+use mathlib.Core.Option.{none, some}
 use mathlib.Core.List.{List, [], _∷_}
-use Prim.Native.Nat.{ℕ, suc, _+_, _-_, _≤_, _<_}
+use Prim.Native.Nat.{ℕ, _+_, _-_, _≤_, _<_}
 use native.Mathlib.Omega.{arith}
 use native.Mathlib.Numerals.{add-one}
 use borrow.Author.Tests.{eqb-true, eqb-false, eq-eqb, ne-eqb}
 use lib.Dec.{eqb}
 use Rattle.meaning.specs.Sets.{any}
 use Rattle.meaning.specs.Domain.{Domain}
-use Rattle.meaning.specs.Rules.{Bytes, Literal, positive, negated, builtin, Side, plain, computed}
-use Rattle.meaning.specs.Matchings.{Values, operate?, value?, side?}
+use Rattle.meaning.specs.Rules.{Bytes, Literal, positive, negated, builtin, plain, computed}
+use Rattle.meaning.specs.Matchings.{Values, side?}
 use Rattle.meaning.specs.Quick.{unfit, side-overflows, literal-overflows}
-use Rattle.meaning.proofs.Booleans.{or-cases}
 use Rattle.codes.specs.Codes.{no-value, beyond}
 use Rattle.codes.specs.Domains.{codes, code-in-range}
 use Rattle.tables.specs.Rows.{from, literal-column, no-operation, side-at, literal-at}
 use Rattle.tables.specs.WellFormed.{has-operation}
 use Rattle.tables.proofs.Strides.{from-more, from-end}
-use Rattle.binding.specs.Bindings.{slot, values-of}
-use Rattle.binding.specs.declared.Bindings.{Bindings}
-use Rattle.sides.specs.Right.{Right}
+use Rattle.binding.specs.Bindings.{slot}
 
 unfit-slot : (c : ℕ) → unfit code-in-range (slot c) ≡ eqb c beyond
 unfolding unfit code-in-range slot
@@ -35,12 +32,12 @@ unfit-slot c = go (eqb c no-value) refl
     go true e = rw (eqb-true c no-value e)
     go false e = twice (eqb c beyond)
 
-module _ (names : List Bytes) (literals : List ℕ) (l : ℕ) (b : Bindings) where
-  pub classical-stays : literal-column literals l 0 < 2 → literal-overflows (codes names) code-in-range (values-of b) (literal-at literals l) ≡ false
+module _ (names : List Bytes) (literals : List ℕ) (l : ℕ) (ρ : Values ℕ) where
+  pub classical-stays : literal-column literals l 0 < 2 → literal-overflows (codes names) code-in-range ρ (literal-at literals l) ≡ false
   unfolding literal-at literal-overflows
   classical-stays h = go (eqb (literal-column literals l 0) 0) (eqb (literal-column literals l 0) 1) refl refl
     where
-      go : (s t : Bool) → eqb (literal-column literals l 0) 0 ≡ s → eqb (literal-column literals l 0) 1 ≡ t → literal-overflows (codes names) code-in-range (values-of b) (literal-at literals l) ≡ false
+      go : (s t : Bool) → eqb (literal-column literals l 0) 0 ≡ s → eqb (literal-column literals l 0) 1 ≡ t → literal-overflows (codes names) code-in-range ρ (literal-at literals l) ≡ false
       go true t e f = rw e
       go false true e f = rw (e, f)
       go false false e f = let p = eqb-false (literal-column literals l 0) 0 e in let q = eqb-false (literal-column literals l 0) 1 f in absurd (omega arith)
@@ -52,15 +49,15 @@ module _ (names : List Bytes) (literals : List ℕ) (l : ℕ) (b : Bindings) whe
     not-negated : eqb (literal-column literals l 0) 1 ≡ false
     not-negated = ne-eqb (literal-column literals l 0) 1 (λ e. omega arith)
 
-    pub plain-stays : literal-column literals l 3 ≡ no-operation → literal-overflows (codes names) code-in-range (values-of b) (literal-at literals l) ≡ false
+    pub plain-stays : literal-column literals l 3 ≡ no-operation → literal-overflows (codes names) code-in-range ρ (literal-at literals l) ≡ false
     unfolding literal-at literal-overflows side-overflows side-at
     plain-stays e = rw (not-positive, not-negated, eq-eqb (literal-column literals l 3) no-operation e)
 
-    pub computed-leaves : (literal-column literals l 3 ≡ no-operation → ⊥) → (r : ℕ) → Right names literals l b r → eqb r beyond ≡ literal-overflows (codes names) code-in-range (values-of b) (literal-at literals l)
+    pub computed-leaves : (literal-column literals l 3 ≡ no-operation → ⊥) → (r : ℕ) → slot r ≡ side? (codes names) ρ (side-at literals l) → eqb r beyond ≡ literal-overflows (codes names) code-in-range ρ (literal-at literals l)
     unfolding literal-at literal-overflows side-overflows side-at side?
     computed-leaves n r q =
         let t = ne-eqb (literal-column literals l 3) no-operation n in
-        rw (not-positive, not-negated, t) (sym (unfit-slot r) ∙ ap (unfit code-in-range) (rw t at (q .partial)))
+        rw (not-positive, not-negated, t) (sym (unfit-slot r) ∙ ap (unfit code-in-range) (rw t at q))
 
 -- ---- a test of some literal, by place
 

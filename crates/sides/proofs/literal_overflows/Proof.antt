@@ -1,4 +1,5 @@
 -- `literal_overflows` meets its contract: only a built-in with an operation can leave the range. Assumes nothing.
+use Rattle.binding.specs.Bindings.{values-of}
 use Rattle.sides.proofs.Range.{classical-stays, plain-stays, computed-leaves}
 use native.Mathlib.Omega.{arith}
 use mathlib.Core.Path.{sym}
@@ -19,7 +20,7 @@ shared-slice-read-if1 : tie.Need-shared-slice-read-if1
 shared-slice-read-if1 c = search needs
 
 returns : tie.Need-returns
-returns c = let a = c .before .before .before .args in λ names. sym (classical-stays names (a .literals .now) (a .l) (a .known) (c .if1 .taken))
+returns c = let a = c .before .before .before .args in λ names. sym (classical-stays names (a .literals .now) (a .l) (values-of (a .known)) (c .if1 .taken))
 
 mul-if2 : tie.Need-mul-if2
 mul-if2 c = search needs
@@ -34,13 +35,13 @@ shared-slice-read-if2 : tie.Need-shared-slice-read-if2
 shared-slice-read-if2 c = search needs
 
 returns-2 : tie.Need-returns-2
-returns-2 c = let a = c .before .before .before .before .before .args in λ names. sym (plain-stays names (a .literals .now) (a .l) (a .known) (c .before .before .if1 .left) (c .if2 .taken))
+returns-2 c = let a = c .before .before .before .before .before .args in λ names. sym (plain-stays names (a .literals .now) (a .l) (values-of (a .known)) (c .before .before .if1 .left) (c .if2 .taken))
 
 right-requires : tie.Need-right-requires
 right-requires c κs = (c .before .before .before .before .before .pre .inside, c .before .before .before .before .before .pre .side (c .before .before .if1 .left))
 
 returns-3 : tie.Need-returns-3
-returns-3 c = let a = c .before .before .before .before .before .before .args in λ names. computed-leaves names (a .literals .now) (a .l) (a .known) (c .before .before .before .if1 .left) (c .before .if2 .left) _ (c .right .ensures names)
+returns-3 c = let a = c .before .before .before .before .before .before .args in λ names. computed-leaves names (a .literals .now) (a .l) (values-of (a .known)) (c .before .before .before .if1 .left) (c .before .if2 .left) _ (c .right .ensures names .partial)
 
 pub literal-overflows-spec : {M : Type 1} → statement M
 literal-overflows-spec =
