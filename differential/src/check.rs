@@ -2,6 +2,7 @@
 
 use crate::answer::{Answer, Part, Refusal, Text, NO_ROOM, OUT_OF_RANGE};
 use crate::grammar::{self, PlacedFact};
+use crate::meaning::matchings::Candidate;
 use crate::meaning::Outcome;
 use crate::output::{self, Report};
 use crate::plain;
@@ -55,6 +56,20 @@ fn both_read(lent: Lent) -> Result<(Vec<Rule>, Report), Refusal> {
         return report.and_then(|report| rules.map(|rules| (rules, report)));
     }
     rules.and_then(|rules| report.map(|report| (rules, report)))
+}
+
+/// The rules of a program and the facts of an output's candidate, where both are read and there is one.
+pub fn rules_and_facts(program: &[u8], output: &[u8]) -> Option<(Vec<Rule>, Vec<Fact>)> {
+    let rules = read_program(program).ok()?;
+    let Ok(Report::Answer(placed)) = output::report(output) else { return None };
+    Some((rules, placed.into_iter().map(|placed| placed.fact).collect()))
+}
+
+/// How many matchings a program's rules have over the candidate of an output, where there is one.
+pub fn matchings(program: &[u8], output: &[u8]) -> Option<usize> {
+    let (rules, facts) = rules_and_facts(program, output)?;
+    let candidate = Candidate::new(&facts);
+    Some(rules.iter().map(|rule| candidate.matchings(rule)).sum())
 }
 
 /// 10 comes before 6 and 7.

@@ -10,11 +10,10 @@ pub mod solve;
 mod style;
 pub mod traces;
 
-use crate::check::read_program;
+use crate::check::{read_program, rules_and_facts};
 use crate::frames::{Case, MOST_LENGTH, MOST_PLACES};
 use crate::lexer::Language;
 use crate::meaning::matchings::Candidate;
-use crate::output::{self, Report};
 use crate::plain::plain_form;
 use crate::random::Random;
 use crate::rules::{Fact, Rule};
@@ -76,10 +75,7 @@ fn is_small_enough(case: &Case) -> bool {
 }
 
 fn work(program: &[u8], output: &[u8]) -> usize {
-    let (Ok(rules), Ok(Report::Answer(facts))) = (read_program(program), output::report(output)) else {
-        return 0;
-    };
-    let facts: Vec<Fact> = facts.into_iter().map(|placed| placed.fact).collect();
+    let Some((rules, facts)) = rules_and_facts(program, output) else { return 0 };
     let candidate = Candidate::new(&facts);
     rules.iter().fold(0, |sum: usize, rule| sum.saturating_add(candidate.work(rule)))
 }

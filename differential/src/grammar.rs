@@ -2,7 +2,7 @@
 
 use crate::answer::{Part, Refusal, Text, NOT_GRAMMAR, NUMBER_TOO_BIG, TOO_MANY};
 use crate::lexer::{token_from, Kind, Language, Token};
-use crate::rules::{Atom, BuiltIn, Fact, Literal, Name, Operation, Relation, Rule, Side, Term, Value, Variable, MOST};
+use crate::rules::{Atom, BuiltIn, Fact, Literal, Name, Operation, Rule, Side, Term, Value, Variable, MOST};
 use crate::wrong::{self, Wrong};
 
 const MOST_RULES: usize = 256;
@@ -104,17 +104,22 @@ impl<'a> Reader<'a> {
         Err(self.refuse(TOO_MANY))
     }
 
-    fn rules(mut self) -> Read<Vec<Rule>> {
-        let mut rules = Vec::new();
+    /// All that a text is made of, to its end: with what one begins, how many there may be, and how one is read.
+    fn all<T>(mut self, begin: &[Kind], most: usize, one: fn(&mut Self) -> Read<T>) -> Read<Vec<T>> {
+        let mut found = Vec::new();
         while !self.sees(Kind::End) {
-            if !matches!(self.token.kind, Kind::If | Kind::Minus | Kind::Name) {
+            if !begin.contains(&self.token.kind) {
                 return Err(self.unexpected());
             }
-            let most = MOST_RULES + usize::from(wrong::is(Wrong::RulesOf257));
-            self.limit(rules.len(), most)?;
-            rules.push(self.rule()?);
+            self.limit(found.len(), most)?;
+            found.push(one(&mut self)?);
         }
-        Ok(rules)
+        Ok(found)
+    }
+
+    fn rules(self) -> Read<Vec<Rule>> {
+        let most = MOST_RULES + usize::from(wrong::is(Wrong::RulesOf257));
+        self.all(&[Kind::If, Kind::Minus, Kind::Name], most, Reader::rule)
     }
 
     fn rule(&mut self) -> Read<Rule> {
@@ -186,7 +191,7 @@ impl<'a> Reader<'a> {
     /// A name begins a classical atom, or is the left side of a built-in one.
     fn literal_from_name(&mut self) -> Read<Literal> {
         let name = self.name()?;
-        if relation(self.token.kind).is_some() {
+        if matches!(self.token.kind, Kind::Relation(_)) {
             return self.built_in(Term::Value(Value::Name(name)));
         }
         let arguments = self.arguments()?;
@@ -194,7 +199,7 @@ impl<'a> Reader<'a> {
     }
 
     fn built_in(&mut self, left: Term) -> Read<Literal> {
-        let Some(relation) = relation(self.token.kind) else {
+        let Kind::Relation(relation) = self.token.kind else {
             return Err(self.unexpected());
         };
         self.advance();
@@ -345,17 +350,9 @@ impl<'a> Reader<'a> {
         Ok(self.variables.len() - 1)
     }
 
-    fn facts(mut self) -> Read<Vec<PlacedFact>> {
-        let mut facts = Vec::new();
-        while !self.sees(Kind::End) {
-            if !matches!(self.token.kind, Kind::Minus | Kind::Name) {
-                return Err(self.unexpected());
-            }
-            let most = MOST_FACTS + usize::from(wrong::is(Wrong::FactsOf1025));
-            self.limit(facts.len(), most)?;
-            facts.push(self.fact()?);
-        }
-        Ok(facts)
+    fn facts(self) -> Read<Vec<PlacedFact>> {
+        let most = MOST_FACTS + usize::from(wrong::is(Wrong::FactsOf1025));
+        self.all(&[Kind::Minus, Kind::Name], most, Reader::fact)
     }
 
     fn fact(&mut self) -> Read<PlacedFact> {
@@ -382,18 +379,6 @@ fn ground(atom: Atom) -> Fact {
 fn starts_literal(kind: Kind) -> bool {
     use Kind::{Anonymous, Minus, Name, Not, Number, Variable};
     matches!(kind, Not | Minus | Name | Number | Variable | Anonymous)
-}
-
-fn relation(kind: Kind) -> Option<Relation> {
-    match kind {
-        Kind::Equal => Some(Relation::Equal),
-        Kind::Unequal => Some(Relation::Unequal),
-        Kind::Less => Some(Relation::Less),
-        Kind::LessOrEqual => Some(Relation::LessOrEqual),
-        Kind::Greater => Some(Relation::Greater),
-        Kind::GreaterOrEqual => Some(Relation::GreaterOrEqual),
-        _ => None,
-    }
 }
 
 fn operation(kind: Kind) -> Option<Operation> {

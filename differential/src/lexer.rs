@@ -1,5 +1,6 @@
 //! Bytes to tokens: longest match, with blanks and comments passed over.
 
+use crate::rules::Relation;
 use crate::wrong::{self, Wrong};
 
 /// What a token is.
@@ -18,12 +19,7 @@ pub enum Kind {
     Plus,
     Minus,
     Times,
-    Equal,
-    Unequal,
-    Less,
-    LessOrEqual,
-    Greater,
-    GreaterOrEqual,
+    Relation(Relation),
     /// A byte where no token starts.
     Stray,
     /// The end of the text.
@@ -48,13 +44,13 @@ pub enum Language {
 /// Marks by their spelling, of two bytes before those of one, so that the first that fits is the longest.
 const MARKS: &[(&[u8], Kind)] = &[
     (b":-", Kind::If),
-    (b"!=", Kind::Unequal),
-    (b"<>", Kind::Unequal),
-    (b"<=", Kind::LessOrEqual),
-    (b">=", Kind::GreaterOrEqual),
-    (b"<", Kind::Less),
-    (b">", Kind::Greater),
-    (b"=", Kind::Equal),
+    (b"!=", Kind::Relation(Relation::Unequal)),
+    (b"<>", Kind::Relation(Relation::Unequal)),
+    (b"<=", Kind::Relation(Relation::LessOrEqual)),
+    (b">=", Kind::Relation(Relation::GreaterOrEqual)),
+    (b"<", Kind::Relation(Relation::Less)),
+    (b">", Kind::Relation(Relation::Greater)),
+    (b"=", Kind::Relation(Relation::Equal)),
     (b"(", Kind::Open),
     (b")", Kind::Close),
     (b",", Kind::Comma),
@@ -166,6 +162,6 @@ fn mark(text: &[u8], start: usize) -> Token {
         return token(Kind::Stray, start, 1);
     };
     let wrongly = wrong::is(Wrong::UnequalReadsLess) && *spelling == b"<>";
-    let kind = if wrongly { Kind::Less } else { *kind };
+    let kind = if wrongly { Kind::Relation(Relation::Less) } else { *kind };
     token(kind, start, spelling.len())
 }

@@ -2,6 +2,7 @@
 
 use crate::lexer::{tokens, Kind, Language};
 use crate::random::Random;
+use crate::rules::Relation;
 
 /// The operations' marks.
 pub const OPERATIONS: &[&str] = &["+", "-", "*"];
@@ -43,7 +44,7 @@ pub fn restyled(random: &mut Random, text: &str) -> Vec<u8> {
 
 fn respelled(random: &mut Random, kind: Kind, spelling: &str) -> String {
     match kind {
-        Kind::Unequal => random.pick(&["!=", "<>"]).to_string(),
+        Kind::Relation(Relation::Unequal) => random.pick(&["!=", "<>"]).to_string(),
         Kind::Number if spelling == "0" && random.chance(30) => "-0".to_string(),
         _ => spelling.to_string(),
     }
