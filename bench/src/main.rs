@@ -1,113 +1,151 @@
-//! The benchmark: our checker and clingo side by side on the same jobs, and how their times grow with a trace.
+//! The benchmark: our checker and clingo side by side on the same jobs, and how their costs grow.
 
 #![forbid(unsafe_code)]
 
 mod chart;
+mod clingo;
 mod clock;
+mod cost;
+mod instructions;
 mod jobs;
+mod options;
+mod page;
+mod rows;
+mod table;
 
-use std::io::{self, Write};
-use std::process::ExitCode;
+use std::io;
+use std::path::Path;
+use std::process::{Command, ExitCode, Stdio};
 
-use chart::Curve;
+use chart::{Curve, Panel};
+use clingo::Clingo;
+use cost::{Measure, Programs};
 use jobs::Job;
+use options::Options;
+use rows::{Per, Row};
+use table::Report;
 
-/// Lengths of the chains whose times are drawn.
-const LENGTHS: &[usize] = &[64, 96, 128, 192, 256, 320, 384, 448, 500];
-
-const USAGE: &str = "usage: bench --jobs FOLDER [--clingo PATH] [--svg FILE] [--otherwise SCRIPT] [--trials COMMAND..]";
-
-/// What the command line asks for.
-#[derive(Default)]
-struct Options {
-    jobs: Option<String>,
-    clingo: Option<String>,
-    svg: Option<String>,
-    trials: Vec<String>,
-}
-
-/// The times of one job.
-struct Row {
-    ours: clock::Ours,
-    clingo: Option<f64>,
-}
+/// How often the unit of a chain is moved: facts double from each to the next.
+const MOVES: &[usize] = &[15, 31, 63, 127, 255, 511];
+/// At how many sites the units stand: from each to the next a site has twice as many.
+const SITES: &[usize] = &[512, 256, 128, 64, 32, 16, 8, 4, 2, 1];
 
 fn main() -> ExitCode {
     let arguments: Vec<String> = std::env::args().skip(1).collect();
-    let Some(options) = read(&arguments) else {
-        eprintln!("{USAGE}");
-        return ExitCode::from(3);
+    let said = match options::read(&arguments) {
+        Ok(options) if options.help => {
+            println!("{}", options::USAGE);
+            return ExitCode::SUCCESS;
+        }
+        Ok(options) => run(&options).map_err(|error| error.to_string()),
+        Err(words) => Err(format!("{words}\n{}", options::USAGE)),
     };
-    match run(&options) {
+    match said {
         Ok(()) => ExitCode::SUCCESS,
-        Err(error) => {
-            eprintln!("bench: {error}");
+        Err(words) => {
+            eprintln!("bench: {words}");
             ExitCode::from(3)
         }
     }
 }
 
-fn read(arguments: &[String]) -> Option<Options> {
-    let mut options = Options::default();
-    let mut words = arguments.iter();
-    while let Some(option) = words.next() {
-        match option.as_str() {
-            "--jobs" => options.jobs = Some(words.next()?.clone()),
-            "--clingo" => options.clingo = Some(words.next()?.clone()),
-            "--svg" => options.svg = Some(words.next()?.clone()),
-            "--otherwise" => options.trials = vec![words.next()?.clone()],
-            "--trials" => options.trials = words.by_ref().cloned().collect(),
-            _ => return None,
-        }
-    }
-    Some(options)
-}
-
 fn run(options: &Options) -> io::Result<()> {
-    print_head()?;
-    if let Some(folder) = &options.jobs {
-        for job in jobs::stored(folder)? {
-            measured(options, &job)?;
-        }
-    }
-    let mut rows = Vec::new();
-    for steps in LENGTHS {
-        rows.push((*steps, measured(options, &jobs::chain(*steps))?));
-    }
-    writeln!(io::stdout(), "Times are of one check or one run, without the time to start.")?;
-    match &options.svg {
-        Some(file) => std::fs::write(file, chart::chart(&curves(&rows))),
-        None => Ok(()),
-    }
+    let room = options.root.join("bench/target/series");
+    let least = jobs::least(&room)?;
+    let programs = programs(options, &least)?;
+    let mut report = Report::default();
+    report.line(&heading(&programs))?;
+    let mut some = vec![least];
+    some.extend(jobs::stored(&options.root.join("bench/jobs"))?);
+    rows::measured(&mut report, &programs, &some, None)?;
+    report.line("\nA chain of transfers, twice as long each time:\n")?;
+    let chains = series(MOVES, |moves| jobs::chain(&room, moves))?;
+    let by_facts = rows::measured(&mut report, &programs, &chains, Some(Per::Fact))?;
+    report.line("\nThe same number of facts each time, and about twice the matchings:\n")?;
+    let shared = series(SITES, |sites| jobs::shared(&room, sites))?;
+    let by_matchings = rows::measured(&mut report, &programs, &shared, Some(Per::Matching))?;
+    let panels = [
+        panel("A chain of transfers", "facts", &by_facts, |row| row.facts),
+        panel("Units that share sites, 512 facts", "matchings", &by_matchings, |row| row.matchings),
+    ];
+    kept(options, &report, &chart::chart(&panels, programs.measure))
 }
 
-fn print_head() -> io::Result<()> {
-    let [job, facts, rounds, ours, clingo, ratio] = ["job", "facts", "rounds", "ours ms", "clingo ms", "ratio"];
-    writeln!(io::stdout(), "{job:<14} {facts:>6} {rounds:>7} {ours:>11} {clingo:>11} {ratio:>8}")
+fn series(sizes: &[usize], job: impl Fn(usize) -> io::Result<Job>) -> io::Result<Vec<Job>> {
+    sizes.iter().map(|size| job(*size)).collect()
 }
 
-/// Times a job and prints its row.
-fn measured(options: &Options, job: &Job) -> io::Result<Row> {
-    let ours = clock::ours(&options.trials, job)?;
-    let clingo = match &options.clingo {
-        Some(path) => Some(clock::clingo(path, job)?),
-        None => None,
+/// What is measured: the proved program is built first where it is not, and clingo is looked for.
+fn programs(options: &Options, least: &Job) -> io::Result<Programs> {
+    let bench = options.root.join("bench");
+    let (trials, counter) = (options.root.join("differential/trials"), bench.join("count"));
+    if options.measure == Measure::Instructions {
+        build(&options.root.join("lookback"), least)?;
+        instructions::ours(&counter, least)?;
+    }
+    let path = options.clingo.as_deref().unwrap_or("clingo").to_string();
+    let words = match options.measure {
+        Measure::Seconds => vec![path],
+        Measure::Instructions => vec![counter.to_string_lossy().into_owned(), path],
     };
-    let other = clingo.map_or("-".to_string(), |seconds| format!("{:.3}", seconds * 1e3));
-    let ratio = clingo.map_or("-".to_string(), |seconds| format!("{:.1}", seconds / ours.seconds));
-    let rounds = ours.rounds.map_or("-".to_string(), |rounds| rounds.to_string());
-    let own = ours.seconds * 1e3;
-    let (name, facts) = (&job.name, job.facts());
-    writeln!(io::stdout(), "{name:<14} {facts:>6} {rounds:>7} {own:>11.3} {other:>11} {ratio:>8}")?;
-    Ok(Row { ours, clingo })
+    let clingo = match Clingo::of(words) {
+        Ok(clingo) => Some(clingo),
+        Err(missing) if options.clingo.is_some() => return Err(io::Error::other(missing)),
+        Err(missing) => {
+            eprintln!("bench: {missing}; its columns stay empty");
+            None
+        }
+    };
+    Ok(Programs { measure: options.measure, trials, counter, clingo })
 }
 
-fn curves(rows: &[(usize, Row)]) -> Vec<Curve> {
-    let ours = rows.iter().map(|(steps, row)| (*steps, row.ours.seconds));
-    let clingo: Vec<(usize, f64)> = rows.iter().filter_map(|(steps, row)| Some((*steps, row.clingo?))).collect();
-    let mut curves = vec![Curve { name: "this checker", colour: "#0b6e4f", points: ours.collect() }];
+/// Lets the script `lookback` prove and build its program.
+fn build(lookback: &Path, least: &Job) -> io::Result<()> {
+    let [program, ..] = least.files();
+    let mut command = Command::new(lookback);
+    let status = command.args(["plain", &program]).current_dir(&least.folder).stdout(Stdio::null()).status()?;
+    match status.success() {
+        true => Ok(()),
+        false => Err(io::Error::other("lookback does not run")),
+    }
+}
+
+/// What was run, in the first line of the report.
+fn heading(programs: &Programs) -> String {
+    let clingo = match &programs.clingo {
+        Some(clingo) => format!("clingo {}", clingo.version),
+        None => "no clingo".to_string(),
+    };
+    match programs.measure {
+        Measure::Seconds => format!("`bench/run --time`, {clingo}: one check or run, without the time to start.\n"),
+        Measure::Instructions => format!("`bench/run --count`, {clingo}: one run of each program, with its start.\n"),
+    }
+}
+
+fn panel(title: &'static str, count: &'static str, rows: &[Row], of: fn(&Row) -> usize) -> Panel {
+    let ours = rows.iter().map(|row| (of(row) as f64, row.costs.ours.cost)).collect();
+    let clingo: Vec<_> = rows.iter().filter_map(|row| Some((of(row) as f64, row.costs.clingo?))).collect();
+    let mut curves = vec![Curve { name: "this checker", colour: "#0b6e4f", points: ours }];
     if !clingo.is_empty() {
         curves.push(Curve { name: "clingo", colour: "#b3541e", points: clingo });
     }
-    curves
+    Panel { title, count, curves }
+}
+
+/// Writes the files that are asked for.
+fn kept(options: &Options, report: &Report, chart: &str) -> io::Result<()> {
+    if let Some(file) = &options.svg {
+        std::fs::write(file, chart)?;
+    }
+    if !options.docs {
+        return Ok(());
+    }
+    let docs = options.root.join("docs");
+    match options.measure {
+        Measure::Seconds => page::fill(&docs.join("SPEED.md"), "times", &report.text),
+        Measure::Instructions => {
+            std::fs::write(docs.join("growth.svg"), chart)?;
+            page::fill(&docs.join("SPEED.md"), "counts", &report.text)
+        }
+    }
 }
