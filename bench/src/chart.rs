@@ -1,6 +1,7 @@
 //! A chart of growing costs as SVG: panels side by side, all axes by powers.
 
-use crate::cost::Measure;
+use crate::measure::Measure;
+use crate::table::grouped;
 
 /// A panel: costs over a count.
 pub struct Panel {
@@ -76,7 +77,7 @@ impl Frame {
 
 /// The chart's text.
 pub fn chart(panels: &[Panel], measure: Measure) -> String {
-    let width = FIRST.right + APART * (panels.len() - 1) as f64 + 30.0;
+    let width = FIRST.right + APART * (panels.len() - 1) as f64 + 40.0;
     let mut svg = format!(
         "<svg xmlns=\"http://www.w3.org/2000/svg\" viewBox=\"0 0 {width} {HEIGHT}\" font-family=\"sans-serif\" \
          font-size=\"13\">\n<rect width=\"{width}\" height=\"{HEIGHT}\" fill=\"white\"/>\n"
@@ -97,7 +98,7 @@ fn points(panel: &Panel) -> impl Iterator<Item = (f64, f64)> + '_ {
 
 fn drawn(panel: &Panel, frame: &Frame, measure: Measure) -> String {
     let area = frame.area;
-    let mut svg = text(area.left, area.top - 20.0, "start", panel.title);
+    let mut svg = text(area.left, area.top - 20.0, "start", &format!("{}: {}", panel.title, measure.words()));
     svg.push_str(&count_axis(frame, panel.count));
     svg.push_str(&cost_axis(frame, measure));
     for (number, curve) in panel.curves.iter().enumerate() {
@@ -111,7 +112,7 @@ fn count_axis(frame: &Frame, words: &str) -> String {
     let area = frame.area;
     let mark = |count: f64| {
         let x = frame.x(count);
-        grid_line(x, area.top, x, area.bottom) + &text(x, area.bottom + 20.0, "middle", &format!("{count:.0}"))
+        grid_line(x, area.top, x, area.bottom) + &text(x, area.bottom + 20.0, "middle", &grouped(count, 0))
     };
     let marks: String = frame.counts.each().map(mark).collect();
     marks + &text((area.left + area.right) / 2.0, area.bottom + 42.0, "middle", words)
@@ -121,7 +122,7 @@ fn cost_axis(frame: &Frame, measure: Measure) -> String {
     let area = frame.area;
     let mark = |cost: f64| {
         let y = frame.y(cost);
-        grid_line(area.left, y, area.right, y) + &text(area.left - 8.0, y + 4.0, "end", &measure.short(cost))
+        grid_line(area.left, y, area.right, y) + &text(area.left - 8.0, y + 4.0, "end", &measure.power(cost))
     };
     frame.costs.each().map(mark).collect()
 }

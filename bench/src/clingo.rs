@@ -22,7 +22,7 @@ impl Clingo {
         let output = match command(&words).arg("--version").output() {
             Ok(output) => output,
             Err(error) if error.kind() == io::ErrorKind::NotFound => {
-                return Err(format!("there is no {}; Debian's package gringo has clingo", words[0]))
+                return Err(format!("there is no {}; Debian's package gringo has clingo", words[0]));
             }
             Err(error) => return Err(format!("{}: {error}", words[0])),
         };
@@ -31,7 +31,7 @@ impl Clingo {
             Some(version) => Ok(Clingo { version: version.to_string(), words }),
             None => Err(match String::from_utf8_lossy(&output.stderr).lines().next() {
                 Some(line) if !line.starts_with("instructions ") => line.to_string(),
-                _ => format!("{} is no clingo", words.join(" ")),
+                _ => format!("{} is no clingo", words[words.len() - 1]),
             }),
         }
     }

@@ -14,8 +14,10 @@ use crate::jobs::Job;
 const LONG_ENOUGH: f64 = 0.4;
 /// Bytes of a batch at most.
 const MOST_BYTES: usize = 64_000_000;
-/// Runs of which the middle one counts.
-const RUNS: usize = 5;
+/// Runs of a batch, of which the middle one counts.
+const BATCHES: usize = 5;
+/// Runs of clingo, of which the middle one counts: each is short.
+const RUNS: usize = 21;
 
 /// Times a job: many copies in one run, less a run with none.
 pub fn ours(trials: &Path, job: &Job) -> io::Result<Ours> {
@@ -23,20 +25,20 @@ pub fn ours(trials: &Path, job: &Job) -> io::Result<Ours> {
     let case = Case::Check { code: 10, places: 1024, program: job.program.clone(), output: job.output.clone() };
     let frame = case.frame();
     let said = said(job, &run_on(&command, frame.clone())?)?;
-    let start = middle(|| run_on(&command, Vec::new()))?;
+    let start = middle(BATCHES, || run_on(&command, Vec::new()))?;
     let most = MOST_BYTES / frame.len();
     let mut copies = 1;
     while copies < most && timed(|| run_on(&command, frame.repeat(copies)))? - start < LONG_ENOUGH {
         copies = (copies * 4).min(most);
     }
-    let batch = middle(|| run_on(&command, frame.repeat(copies)))?;
+    let batch = middle(BATCHES, || run_on(&command, frame.repeat(copies)))?;
     Ok(Ours { said, cost: (batch - start).max(0.0) / copies as f64 })
 }
 
 /// Times clingo on a job's program and constraints, less a run on an empty program.
 pub fn clingo(clingo: &Clingo, job: &Job) -> io::Result<f64> {
-    let start = middle(|| clingo.solve(&[]))?;
-    let whole = middle(|| clingo.hold(job))?;
+    let start = middle(RUNS, || clingo.solve(&[]))?;
+    let whole = middle(RUNS, || clingo.hold(job))?;
     Ok((whole - start).max(0.0))
 }
 
@@ -48,8 +50,8 @@ fn timed<T>(work: impl Fn() -> io::Result<T>) -> io::Result<f64> {
 }
 
 /// The middle of some runs' times.
-fn middle<T>(work: impl Fn() -> io::Result<T>) -> io::Result<f64> {
-    let mut times = (0..RUNS).map(|_| timed(&work)).collect::<io::Result<Vec<f64>>>()?;
+fn middle<T>(runs: usize, work: impl Fn() -> io::Result<T>) -> io::Result<f64> {
+    let mut times = (0..runs).map(|_| timed(&work)).collect::<io::Result<Vec<f64>>>()?;
     times.sort_by(f64::total_cmp);
-    Ok(times[RUNS / 2])
+    Ok(times[runs / 2])
 }

@@ -5,26 +5,8 @@ use std::path::PathBuf;
 
 use crate::clingo::Clingo;
 use crate::jobs::Job;
+use crate::measure::Measure;
 use crate::{clock, instructions};
-
-/// By what a cost is told.
-#[derive(Clone, Copy, PartialEq, Eq)]
-pub enum Measure {
-    Seconds,
-    Instructions,
-}
-
-impl Measure {
-    /// A power of ten of a cost in words.
-    pub fn short(self, cost: f64) -> String {
-        let units = match self {
-            Measure::Seconds => [(1.0, "s"), (1e-3, "ms"), (1e-6, "µs")],
-            Measure::Instructions => [(1e9, "G"), (1e6, "M"), (1e3, "K")],
-        };
-        let (size, unit) = *units.iter().find(|(size, _)| cost > size * 0.5).unwrap_or(&units[2]);
-        format!("{} {unit}", (cost / size * 10.0).round() / 10.0)
-    }
-}
 
 /// What our check says of a candidate, and what that costs.
 pub struct Ours {

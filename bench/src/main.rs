@@ -8,19 +8,22 @@ mod clock;
 mod cost;
 mod instructions;
 mod jobs;
+mod measure;
 mod options;
 mod page;
 mod rows;
 mod table;
 
+use std::fs::{self, File};
 use std::io;
 use std::path::Path;
 use std::process::{Command, ExitCode, Stdio};
 
 use chart::{Curve, Panel};
 use clingo::Clingo;
-use cost::{Measure, Programs};
+use cost::Programs;
 use jobs::Job;
+use measure::Measure;
 use options::Options;
 use rows::{Per, Row};
 use table::Report;
@@ -50,6 +53,9 @@ fn main() -> ExitCode {
 }
 
 fn run(options: &Options) -> io::Result<()> {
+    if let Some(file) = &options.svg {
+        can_be_written(file)?;
+    }
     let room = options.root.join("bench/target/series");
     let least = jobs::least(&room)?;
     let programs = programs(options, &least)?;
@@ -60,15 +66,24 @@ fn run(options: &Options) -> io::Result<()> {
     rows::measured(&mut report, &programs, &some, None)?;
     report.line("\nA chain of transfers, twice as long each time:\n")?;
     let chains = series(MOVES, |moves| jobs::chain(&room, moves))?;
-    let by_facts = rows::measured(&mut report, &programs, &chains, Some(Per::Fact))?;
-    report.line("\nThe same number of facts each time, and about twice the matchings:\n")?;
+    let chains = grown(&mut report, &programs, &chains, Per::Fact)?;
+    report.line("\nUnits that share sites, the same number of facts each time and about twice the matchings:\n")?;
     let shared = series(SITES, |sites| jobs::shared(&room, sites))?;
-    let by_matchings = rows::measured(&mut report, &programs, &shared, Some(Per::Matching))?;
+    let shared = grown(&mut report, &programs, &shared, Per::Matching)?;
     let panels = [
-        panel("A chain of transfers", "facts", &by_facts, |row| row.facts),
-        panel("Units that share sites, 512 facts", "matchings", &by_matchings, |row| row.matchings),
+        panel("A chain of transfers", "facts", &chains, Per::Fact),
+        panel("Units that share sites", "matchings", &shared, Per::Matching),
     ];
     kept(options, &report, &chart::chart(&panels, programs.measure))
+}
+
+/// Measures a series, and prints what one more costs.
+fn grown(report: &mut Report, programs: &Programs, jobs: &[Job], per: Per) -> io::Result<Vec<Row>> {
+    let rows = rows::measured(report, programs, jobs, Some(per))?;
+    if let Some(line) = rows::one_more(&rows, programs.measure, per) {
+        report.line(&format!("\n{line}"))?;
+    }
+    Ok(rows)
 }
 
 fn series(sizes: &[usize], job: impl Fn(usize) -> io::Result<Job>) -> io::Result<Vec<Job>> {
@@ -122,9 +137,9 @@ fn heading(programs: &Programs) -> String {
     }
 }
 
-fn panel(title: &'static str, count: &'static str, rows: &[Row], of: fn(&Row) -> usize) -> Panel {
-    let ours = rows.iter().map(|row| (of(row) as f64, row.costs.ours.cost)).collect();
-    let clingo: Vec<_> = rows.iter().filter_map(|row| Some((of(row) as f64, row.costs.clingo?))).collect();
+fn panel(title: &'static str, count: &'static str, rows: &[Row], per: Per) -> Panel {
+    let ours = rows.iter().map(|row| (row.count(per), row.costs.ours.cost)).collect();
+    let clingo: Vec<_> = rows.iter().filter_map(|row| Some((row.count(per), row.costs.clingo?))).collect();
     let mut curves = vec![Curve { name: "this checker", colour: "#0b6e4f", points: ours }];
     if !clingo.is_empty() {
         curves.push(Curve { name: "clingo", colour: "#b3541e", points: clingo });
@@ -132,10 +147,18 @@ fn panel(title: &'static str, count: &'static str, rows: &[Row], of: fn(&Row) ->
     Panel { title, count, curves }
 }
 
+/// Says before anything is measured that a file can't be written.
+fn can_be_written(file: &Path) -> io::Result<()> {
+    match File::options().append(true).create(true).open(file) {
+        Ok(_) => Ok(()),
+        Err(error) => Err(io::Error::new(error.kind(), format!("{}: {error}", file.display()))),
+    }
+}
+
 /// Writes the files that are asked for.
 fn kept(options: &Options, report: &Report, chart: &str) -> io::Result<()> {
     if let Some(file) = &options.svg {
-        std::fs::write(file, chart)?;
+        fs::write(file, chart)?;
     }
     if !options.docs {
         return Ok(());
@@ -144,7 +167,7 @@ fn kept(options: &Options, report: &Report, chart: &str) -> io::Result<()> {
     match options.measure {
         Measure::Seconds => page::fill(&docs.join("SPEED.md"), "times", &report.text),
         Measure::Instructions => {
-            std::fs::write(docs.join("growth.svg"), chart)?;
+            fs::write(docs.join("growth.svg"), chart)?;
             page::fill(&docs.join("SPEED.md"), "counts", &report.text)
         }
     }

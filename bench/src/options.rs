@@ -2,7 +2,7 @@
 
 use std::path::PathBuf;
 
-use crate::cost::Measure;
+use crate::measure::Measure;
 
 pub const USAGE: &str = "\
 usage: bench/run [--time | --count] [--clingo PATH] [--svg FILE] [--docs]
