@@ -29,7 +29,7 @@ pub const RULES: usize = MOST_RULES * RULE;
 
 pub const LITERALS: usize = MOST_RULES * ROWS * LITERAL;
 
-// The rule whose start has been read, in the rows of its number: where reading goes on. A fact is not made into a rule by value.
+// The rule whose start has been read, in the rows of rule k: where reading goes on. A fact is not made into a rule by value.
 fn put_started<'a>(
     program: &'a [u8],
     output: &'a [u8],
@@ -37,40 +37,22 @@ fn put_started<'a>(
     source: Place,
     rules: &mut [u64],
     literals: &mut [u64],
-    number: usize,
+    k: usize,
     start: StartRead,
 ) -> usize
-    requires { ⌜ ((r : RuleRead) → Made (now program) start r → Storable (now program) (now output) (now names) (now rules) (now literals) number (meant (bytes-at (now program) (now output) source) (r .rule))) × (start .bodied ≡ true → Fits (start .variables)) ⌝ }
-    ensures { λ next. ⌜ Puts (now (program .entry)) (now (output .entry)) (now (names .entry)) (now (rules .entry)) (now (literals .entry)) number source start (now (names .exit)) (now (rules .exit)) (now (literals .exit)) next ⌝ }
+    requires { ⌜ ((r : RuleRead) → Made (now program) start r → Storable (now program) (now output) (now names) (now rules) (now literals) k (meant (bytes-at (now program) (now output) source) (r .rule))) × (start .bodied ≡ true → Fits (start .variables)) ⌝ }
+    ensures { λ next. ⌜ Puts (now (program .entry)) (now (output .entry)) (now (names .entry)) (now (rules .entry)) (now (literals .entry)) k source start (now (names .exit)) (now (rules .exit)) (now (literals .exit)) next ⌝ }
 {
     let progress = start.progress;
     let head = start.head;
     if !start.bodied {
-        put_fact_rule(
-            program,
-            output,
-            names,
-            source,
-            rules,
-            literals,
-            number,
-            head,
-        );
+        put_fact_rule(program, output, names, source, rules, literals, k, head);
         return progress.next;
     }
     let variables = start.variables;
     let read = body_at(program, progress.next, start.headed, head, variables);
     let rule = read.rule;
-    put_rule(
-        program,
-        output,
-        names,
-        source,
-        rules,
-        literals,
-        number,
-        rule,
-    );
+    put_rule(program, output, names, source, rules, literals, k, rule);
     let behind = read.progress;
     behind.next
 }
@@ -91,20 +73,11 @@ pub fn fill_rules<'a>(
     let mut at = 0;
     let mut count = 0;
     loop {
-        let start = start_at(program, at, false, MOST_RULES <= count);
-        if start.ended {
+        let read = start_at(program, at, false, MOST_RULES <= count);
+        if read.ended {
             return count;
         }
-        at = put_started(
-            program,
-            output,
-            names,
-            source,
-            rules,
-            literals,
-            count,
-            start,
-        );
+        at = put_started(program, output, names, source, rules, literals, count, read);
         count += 1;
     }
 }
