@@ -46,7 +46,7 @@ fn placed(read: RuleRead, start: usize) -> RuleRead
 }
 
 // The rule whose start has been read: with its body, where one follows.
-pub fn rule_from(text: &[u8], start: StartRead) -> RuleRead
+fn rule_from(text: &[u8], start: StartRead) -> RuleRead
     requires { ⌜ (start .bodied ≡ true → Fits (start .variables)) ⌝ }
     ensures { λ r. ⌜ ((ground over : Bool) (at : ℕ) → ReadsStart ground over (now (text .entry)) at start → ReadsRule ground over (now (text .entry)) at r) ⌝ }
 {

@@ -1,11 +1,14 @@
 -- `places::with_positive` meets its contract. Assumes nothing.
+use mathlib.Core.Path.{sym, ap}
+use mathlib.Core.Bool.{cond}
 use borrow.Author.Tests.{eq-eqb, ne-eqb}
+use Rattle.rulerows.specs.Places.{with-one}
 use borrow.Author.Needs.{needs}
 use Rattle.rulerows.proofs.places.with_positive.Statement.{statement}
 use Rattle.rulerows.proofs.places.with_positive.Tie as tie
 
 returns : tie.Need-returns
-returns c = rw (ne-eqb _ _ (c .if1 .taken))
+returns c = sym (ap (λ b. cond b (with-one (c .before .before .args .t1) (c .before .before .args .row)) (c .before .before .args .t1)) (ne-eqb (c .before .before .args .literal .sort) 0 (c .if1 .taken)))
 
 mul-found : tie.Need-mul-found
 mul-found c = search needs
