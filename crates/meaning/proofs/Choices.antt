@@ -12,7 +12,7 @@ use Rattle.meaning.specs.Domain.{Comparison, equal, Domain, Laws}
 use Rattle.meaning.specs.Rules.{Term, constant, variable, Atom, Fact, Side, plain, computed, Literal, positive, negated, builtin, Rule}
 use Rattle.meaning.specs.Safety.{in-atom, positives, in-positives, term-bound, side-bound, atom-bound, Equation, with, scan, equations, bound-after, bound}
 use Rattle.meaning.specs.Instances.{Set, member, Substitution, value, instance, side-value, compares, true-in, body-true}
-use Rattle.meaning.specs.Matchings.{Placed, Values, value?, operate?, side?, Matching}
+use Rattle.meaning.specs.Matchings.{Placed, Values, Extends, value?, operate?, side?, Matching}
 use Rattle.meaning.specs.Matcher.{Match, match-all, set-to, complete, total, Choice, choose, choices}
 use Rattle.meaning.proofs.Booleans.{and-left, and-right, or-cases, or-left, or-right, eqb-sound, eqb-self, is-some, none-some}
 use Rattle.meaning.proofs.Sets.{every-in, in-map, in-unmap, in-at}
@@ -20,7 +20,7 @@ use Rattle.meaning.proofs.Facts.{member-in}
 use Rattle.meaning.proofs.Safety.{Gained, scan-induction, positive-bound}
 use Rattle.meaning.proofs.Bodies.{body-true-is, Agrees, instance-agrees}
 use Rattle.meaning.proofs.Positions.{Sorted, sorted-map}
-use Rattle.meaning.proofs.Matching.{Extends, match-found, match-sorted, match-sound, match-has}
+use Rattle.meaning.proofs.Matching.{match-found, match-sorted, match-sound, match-has}
 
 -- the variables of B have in ρ what they have in π
 abbrev pub Known : {U : Type 0} → (ℕ → Bool) → Values U → Values U → Type 0

@@ -6,7 +6,7 @@ use native.Mathlib.Omega.{arith}
 use Prim.Native.Nat.{ℕ, _-_, _≤_}
 use Rattle.meaning.specs.Sets.{every}
 use Rattle.meaning.specs.Instances.{Set, Substitution}
-use Rattle.meaning.proofs.Matching.{Extends}
+use Rattle.meaning.specs.Matchings.{Extends}
 use Rattle.codes.specs.Domains.{codes}
 use Rattle.names.specs.Table.{names-of}
 use Rattle.tables.specs.Rows.{from, literal-at}
