@@ -11,8 +11,9 @@ use Rattle.meaning.specs.Rules.{predicate}
 use Rattle.meaning.specs.Values.{same-bytes}
 use Rattle.meaning.specs.Instances.{same-sign, same-predicate}
 use Rattle.codes.specs.Predicates.{predicate-of}
+use Rattle.codes.proofs.Predicates.{same-predicate-number}
 use Rattle.tables.specs.Rows.{arity, atom-with}
-use Rattle.tables.proofs.Predicates.{predicate-with, same-predicate-number}
+use Rattle.tables.proofs.Predicates.{predicate-with}
 use Rattle.clashes.specs.Clashes.{turned, differ-in-sign, related}
 
 -- two bits

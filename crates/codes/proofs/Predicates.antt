@@ -58,8 +58,8 @@ same-parts p q h =
     let arities : p % 9 ≡ q % 9 = eqb-sound (p % 9) (q % 9) (and-right (same-bytes (p / 18 ∷ []) (q / 18 ∷ [])) _ (and-right (same-sign (eqb (p / 9 % 2) 1) (eqb (q / 9 % 2) 1)) _ h)) in
     whole p ∙ ap₂ (λ (m a : ℕ). m * 9 + a) (ap₂ (λ (n k : ℕ). n * 2 + k) names signs) arities ∙ sym (whole q)
 
-pub same-numbers : (p q : ℕ) → same-predicate (predicate-of p) (predicate-of q) ≡ eqb p q
-same-numbers p q = both-ways (same-predicate (predicate-of p) (predicate-of q)) (eqb p q) (λ h. eq-eqb p q (same-parts p q h)) (λ h. rw (eqb-sound p q h) (same-predicate-self (predicate-of q)))
+pub same-predicate-number : (p q : ℕ) → same-predicate (predicate-of p) (predicate-of q) ≡ eqb p q
+same-predicate-number p q = both-ways (same-predicate (predicate-of p) (predicate-of q)) (eqb p q) (λ h. eq-eqb p q (same-parts p q h)) (λ h. rw (eqb-sound p q h) (same-predicate-self (predicate-of q)))
 
 -- ---- for names of the list, sign, place and arity in one number are the predicate
 
@@ -67,4 +67,4 @@ pub coded-predicates : (names : List Bytes) → Distinct names → (s s′ : Boo
 unfolding same-predicate
 coded-predicates names table s s′ i i′ a a′ n n′ h h′ e e′ =
     let same : same-bytes (i ∷ []) (i′ ∷ []) ≡ same-bytes n n′ = same-name names table (record { place = i; is-place = refl; is-name = e }) (record { place = i′; is-place = refl; is-name = e′ }) in
-    sym (same-numbers (predicate-code s i a) (predicate-code s′ i′ a′)) ∙ ap₂ same-predicate (predicate-back s i a h) (predicate-back s′ i′ a′ h′) ∙ ap (λ (b : Bool). same-sign s s′ && (b && eqb a a′)) same
+    sym (same-predicate-number (predicate-code s i a) (predicate-code s′ i′ a′)) ∙ ap₂ same-predicate (predicate-back s i a h) (predicate-back s′ i′ a′ h′) ∙ ap (λ (b : Bool). same-sign s s′ && (b && eqb a a′)) same

@@ -38,6 +38,7 @@ use Rattle.codes.specs.Predicates.{CodedName}
 use Rattle.codes.specs.Related.{Pairwise, end, pair, RelatedAtom}
 use Rattle.codes.proofs.Pairwise.{pairwise-append}
 use Rattle.tables.specs.Rows.{from, arity, atom-with, fact-predicate, fact-arguments, fact-at, facts-of}
+use Rattle.tables.proofs.Strides.{from-last, from-same}
 use Rattle.names.specs.Texts.{place-at, bytes-at}
 use Rattle.names.specs.Table.{names-of}
 use Rattle.rows.specs.Codable.{CodableAtom}
@@ -46,7 +47,6 @@ use Rattle.rows.proofs.Growth.{grows-none, grows-then, room-after, keeps-facts}
 use Rattle.rulerows.specs.Stored.{Kept}
 use Rattle.rulerows.specs.Facts.{as-atom, StorableFact, StoresFact}
 use Rattle.rulerows.proofs.Stored.{part-of-part, number-of-part, kept-self, kept-then, kept-wider, kept-part}
-use Rattle.rulerows.proofs.RowParts.{from-suc, from-same}
 use Rattle.factrows.specs.Filled.{names-of-facts, Filled}
 use Rattle.factrows.proofs.Codable.{read-codable}
 
@@ -76,7 +76,7 @@ from-on : {A : Type 0} (f g : ℕ → A) (n : ℕ) → ((k : ℕ) → k < n → 
 from-on {A} f g n h =
     let z : 0 + n ≡ n = omega arith in
     ap (λ (m : ℕ). from f m 0) (add-one n)
-    ∙ from-suc f n 0
+    ∙ from-last f n 0
     ∙ ap₂ (λ (xs : List A) (k : ℕ). xs ++ (f k ∷ [])) (from-same f g n 0 (λ k p q. h k (omega arith))) z
 
 module _ (facts facts′ : List ℕ) (n : ℕ) (kept : Kept (n * 9) (n * 9 + 9) facts facts′) where

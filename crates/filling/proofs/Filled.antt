@@ -31,6 +31,7 @@ use Rattle.codes.specs.Related.{Pairwise, end, pair, RelatedRule}
 use Rattle.codes.proofs.Pairwise.{pairwise-append}
 use Rattle.tables.specs.Rows.{from, rule-at}
 use Rattle.tables.specs.WellFormed.{RuleRow}
+use Rattle.tables.proofs.Strides.{from-last, from-same}
 use Rattle.names.specs.Texts.{place-at, bytes-at}
 use Rattle.names.specs.Table.{names-of}
 use Rattle.rows.specs.Growth.{Grows}
@@ -38,7 +39,6 @@ use Rattle.rows.proofs.Growth.{grows-none, grows-then, room-after, keeps-rules}
 use Rattle.rulerows.specs.Stored.{Kept}
 use Rattle.rulerows.specs.Rules.{names-of-rule, Storable, Stores}
 use Rattle.rulerows.proofs.Stored.{inner, kept-self, kept-then, kept-wider, kept-part}
-use Rattle.rulerows.proofs.RowParts.{from-suc, from-same}
 use Rattle.filling.specs.Rules.{FillableRules, FillsRules}
 use Rattle.filling.proofs.Fit.{tokens-fit}
 use Rattle.filling.proofs.Codable.{rule-codable, rule-safe}
@@ -169,5 +169,5 @@ module _ (program output : Bytes) (names₀ rules₀ literals₀ : List ℕ) (f 
             stands : Pairwise (RelatedRule (CodedName (names-of program output names′)) (Coded (names-of program output names′))) (from (rule-at (take (n * 40 + 40) rules′) (take ((n * 17 + 17) * 12) literals′)) (n + 1) 0) (rules-for (g .walked .rules) ▹ rule-for (next .rule-tree))
             stands =
                 let m : 0 + n ≡ n = omega arith in
-                rw (add-one n, from-suc (rule-at (take (n * 40 + 40) rules′) (take ((n * 17 + 17) * 12) literals′)) n 0, before, m)
+                rw (add-one n, from-last (rule-at (take (n * 40 + 40) rules′) (take ((n * 17 + 17) * 12) literals′)) n 0, before, m)
                 (pairwise-append (keeps-rules program output (s .grows) (g .stands)) (pair (rw is-rule at (s .stands)) end))

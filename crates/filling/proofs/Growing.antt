@@ -12,9 +12,10 @@ use borrow.Author.Tests.{eqb-false}
 use Rattle.meaning.specs.Sets.{In}
 use Rattle.tables.specs.Rows.{from, literal-column, atom-at, literal-at, equation-at, no-literal, rule-column, equation-places, positive-places, head-at, rule-at}
 use Rattle.tables.specs.WellFormed.{Inside, SideRow, RuleRow}
+use Rattle.tables.proofs.Strides.{from-same}
 use Rattle.rulerows.specs.Stored.{row-at}
 use Rattle.rulerows.proofs.Stored.{part-of-part, number-of-part}
-use Rattle.rulerows.proofs.RowParts.{from-same, column-part, atom-part, literal-part, equation-part}
+use Rattle.rulerows.proofs.RowParts.{column-part, atom-part, literal-part, equation-part}
 
 map-same : {A B : Type 0} (f g : A → B) (l : List A) → ((a : A) → In a l → f a ≡ g a) → map f l ≡ map g l
 map-same f g [] h = refl

@@ -1,5 +1,5 @@
 -- From the first pass and the rounds to the outcome of the quick check.
-use mathlib.Core.Path.{_≡_, refl, sym, ap, ap₂, _∙_}
+use mathlib.Core.Path.{_≡_, refl, sym, ap, _∙_}
 use mathlib.Core.Bool.{Bool, true, false}
 use mathlib.Core.Option.{none, some}
 use mathlib.Core.List.{List, _∷_, map}
@@ -21,9 +21,10 @@ use Rattle.meaning.specs.Quick.{overflow, broken, edges, quick, settle, outcome
 use Rattle.meaning.proofs.Sets.{every-in, at-in}
 use Rattle.codes.specs.Domains.{codes, code-in-range}
 use Rattle.tables.specs.Rows.{from, fact-at, facts-of}
-use Rattle.tables.proofs.Strides.{from-length}
+use Rattle.tables.proofs.Strides.{from-length, from-map, from-same}
 use Rattle.derived.specs.declared.Derived.{Derived}
 use Rattle.derived.specs.Members.{places, holds, one-if, count, size}
+use Rattle.derived.proofs.Sizes.{count-most}
 use Rattle.pass.specs.Passed.{Passed}
 use Rattle.pass.specs.declared.Pass.{Pass}
 use Rattle.reach.proofs.Graphs.{below-fact}
@@ -35,31 +36,12 @@ use Rattle.judge.specs.declared.Judgement.{Judgement}
 
 -- ---- lists by their places
 
-map-from : {A B : Type 0} (f : A → B) (g : ℕ → A) (n k : ℕ) → map f (from g n k) ≡ from (λ i. f (g i)) n k
-unfolding from
-map-from f g zero k = refl
-map-from {A} {B} f g (suc n) k = ap (λ (l : List B). f (g k) ∷ l) (map-from f g n (suc k))
-
-from-same : {A : Type 0} (f g : ℕ → A) (n k : ℕ) → ((i : ℕ) → k ≤ i → i < k + n → f i ≡ g i) → from f n k ≡ from g n k
-unfolding from
-from-same f g zero k h = refl
-from-same f g (suc n) k h = ap₂ _∷_ (h k (omega arith) (omega arith)) (from-same f g n (suc k) (λ i a b. h i (omega arith) (omega arith)))
-
 part-from : (l : List ℕ) (n k : ℕ) → k + n ≤ length l → take n (drop k l) ≡ from (λ i. getD l i 0) n k
 unfolding from
 part-from l zero k h = refl
 part-from l (suc n) k h = rw (drop-cons l k 0 (omega arith)) (ap (λ (t : List ℕ). getD l k 0 ∷ t) (part-from l n (suc k) (omega arith)))
 
 -- ---- how many pass
-
-count-most : (f : ℕ → Bool) (n : ℕ) → count f n ≤ n
-unfolding count one-if
-count-most f zero = omega arith
-count-most f (suc n) = go (f n) (count-most f n)
-  where
-    go : (b : Bool) → count f n ≤ n → count f n + one-if b ≤ suc n
-    go true h = omega arith
-    go false h = omega arith
 
 count-all : (f : ℕ → Bool) (n : ℕ) → ((a : ℕ) → a < n → f a ≡ true) → count f n ≡ n
 unfolding count one-if
@@ -163,7 +145,7 @@ module _ (names : List Bytes) (P : List (Rule ℕ)) (facts : List ℕ) (n : ℕ)
     pub judged-smaller : size set < n → (rounds : List ℕ) (j : Judgement) → j .kind ≡ Smaller → j .set ≡ set → Judged names P I rounds rounds j
     unfolding said Lent NoneBehind
     judged-smaller h rounds j e s =
-        let kept : from (holds set) (length I) 0 ≡ map (levels k) I = ap (λ (m : ℕ). from (holds set) m 0) long ∙ from-same (holds set) (λ i. levels k (fact-at facts i)) n 0 (λ i a b. at-place i (omega arith)) ∙ sym (map-from (levels k) (fact-at facts) n 0) in
+        let kept : from (holds set) (length I) 0 ≡ map (levels k) I = ap (λ (m : ℕ). from (holds set) m 0) long ∙ from-same (holds set) (λ i. levels k (fact-at facts i)) n 0 (λ i a b. at-place i (omega arith)) ∙ sym (from-map (levels k) (fact-at facts) n 0) in
         record { says = rw (e, said, s, kept) (rw (← found .is-rounds) at (outcome-smaller names P I in-range unbroken (rw (← found .is-rounds) (not-whole h)))); lent = rw (e, Lent) refl; none-behind = rw (e, NoneBehind, s) (λ a l. found .none a l) }
 
     module _ (h : n ≤ size set) (rounds rounds′ : List ℕ) (copied : Copied table′ rounds rounds′) (wide : length table ≡ n) (room : n ≤ length rounds) where
@@ -175,7 +157,7 @@ module _ (names : List Bytes) (P : List (Rule ℕ)) (facts : List ℕ) (n : ℕ)
           ap (λ (m : ℕ). take m rounds′) long
           ∙ part-from rounds′ n 0 (omega (arith, copied .long))
           ∙ from-same (λ i. getD rounds′ i 0) (λ i. round (fact-at facts i)) n 0 (λ i a b. copied .there i (omega (arith, found .long)) ∙ found .each i (fact-at facts i) (below-fact facts n i (omega arith)) (count-full (holds set) n (omega (arith, sized)) i (omega arith)))
-          ∙ sym (map-from round (fact-at facts) n 0)
+          ∙ sym (from-map round (fact-at facts) n 0)
 
       pub judged-accepted : (j : Judgement) → j .kind ≡ Accepted → j .rounds ≡ k → Judged names P I rounds rounds′ j
       unfolding said Lent NoneBehind

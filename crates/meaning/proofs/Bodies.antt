@@ -1,15 +1,15 @@
 -- Bodies: a true body has an instance; read in a subset of the candidate, only its positive atoms matter; what substitutions that agree share.
 use mathlib.Core.Path.{_≡_, refl, sym, ap, ap₂, _∙_}
-use mathlib.Core.Bool.{Bool, true, false, not, _&&_, false≢true, true≢false}
+use mathlib.Core.Bool.{Bool, true, false, not, _&&_, and-false, false≢true}
 use mathlib.Core.Option.{Option, none, some}
 use mathlib.Core.List.{List, [], _∷_, map}
 use Prim.Native.Nat.{ℕ}
-use Rattle.meaning.specs.Sets.{In, every, _⊆_}
+use Rattle.meaning.specs.Sets.{every, _⊆_}
 use Rattle.meaning.specs.Domain.{Comparison, Domain}
-use Rattle.meaning.specs.Rules.{Term, constant, variable, Atom, Fact, Side, plain, computed, Literal, positive, negated, builtin, Rule}
+use Rattle.meaning.specs.Rules.{Term, constant, variable, Atom, Side, plain, computed, Literal, positive, negated, builtin, Rule}
 use Rattle.meaning.specs.Safety.{positives, term-bound, side-bound, atom-bound, literal-bound, head-bound}
 use Rattle.meaning.specs.Instances.{Set, Substitution, value, instance, side-value, compares, true-in, has-value, formed, has-instance, body-true, head-true}
-use Rattle.meaning.proofs.Booleans.{and-left, and-right, never-false, not-true, both-ways}
+use Rattle.meaning.proofs.Booleans.{and-left, and-right}
 use Rattle.meaning.proofs.Sets.{every-all, every-in}
 
 module _ {U : Type 0} (D : Domain U) where
@@ -34,10 +34,6 @@ module _ {U : Type 0} (D : Domain U) where
       go : (b : Bool) → every (true-in D S σ) (r .body) ≡ b → (every (formed D σ) (r .body) && every (true-in D S σ) (r .body)) ≡ every (true-in D S σ) (r .body)
       go true e = rw (every-all (formed D σ) (r .body) (λ l m. formed-if-true S σ l (every-in (true-in D S σ) (r .body) l m e)))
       go false e = rw e (and-false (every (formed D σ) (r .body)))
-        where
-          and-false : (a : Bool) → (a && false) ≡ false
-          and-false true = refl
-          and-false false = refl
 
   -- ---- in a subset
 

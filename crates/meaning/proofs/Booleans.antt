@@ -1,5 +1,5 @@
 -- Laws of Booleans and of optional values.
-use mathlib.Core.Path.{_≡_, refl, sym, ap, _∙_}
+use mathlib.Core.Path.{_≡_, refl, sym, ap}
 use mathlib.Core.Bool.{Bool, true, false, not, _&&_, _||_, Bool·beq, false≢true, true≢false}
 use mathlib.Core.Logic.{_⊎_, inl, inr}
 use mathlib.Core.Option.{Option, none, some}
@@ -51,6 +51,10 @@ not-of-false b h = rw h
 pub never-false : (b : Bool) → (b ≡ false → ⊥) → b ≡ true
 never-false true h = refl
 never-false false h = absurd (h refl)
+
+pub never-true : (b : Bool) → (b ≡ true → ⊥) → b ≡ false
+never-true true h = absurd (h refl)
+never-true false h = refl
 
 pub beq-equal : (a b : Bool) → Bool·beq a b ≡ true → a ≡ b
 beq-equal true true h = refl

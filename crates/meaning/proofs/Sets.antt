@@ -1,12 +1,12 @@
 -- Laws of lists and sets: standing in a list, every, any, how many.
-use mathlib.Core.Path.{_≡_, refl, sym, ap, _∙_}
-use mathlib.Core.Bool.{Bool, true, false, _&&_, _||_, false≢true, true≢false}
+use mathlib.Core.Path.{_≡_, refl, sym, ap}
+use mathlib.Core.Bool.{Bool, true, false, _&&_, false≢true, true≢false}
 use mathlib.Core.Logic.{_⊎_, inl, inr}
-use mathlib.Core.Option.{Option, none, some}
+use mathlib.Core.Option.{none, some}
 use mathlib.Core.List.{List, [], _∷_, _++_, map}
 use Prim.Native.Nat.{ℕ, zero, suc, _+_, _≤_, _<_}
 use native.Mathlib.Omega.{arith}
-use lib.ListN.{length, getElem?}
+use lib.ListN.{length, getD, getElem?}
 use Rattle.meaning.specs.Sets.{In, every, any, _⊆_}
 use Rattle.meaning.proofs.Booleans.{and-left, and-right, and-both, or-cases, or-left, or-right, none-some, some-inj}
 
@@ -49,6 +49,17 @@ pub in-at : {A : Type 0} (l : List A) (a : A) → In a l → (i : ℕ) × (getEl
 in-at [] a m = absurd m
 in-at (x ∷ xs) a (inl e) = (0, ap (λ (y : _). some y) (sym e))
 in-at (x ∷ xs) a (inr m) = let q = in-at xs a m in (suc (q .0), q .1)
+
+-- what stands inside a list stands there whatever the default
+pub element-at : {A : Type 0} (l : List A) (i : ℕ) (d : A) → i < length l → getElem? l i ≡ some (getD l i d)
+element-at [] i d h = absurd (omega arith)
+element-at (x ∷ l) zero d h = refl
+element-at (x ∷ l) (suc i) d h = element-at l i d (omega arith)
+
+pub element-past : {A : Type 0} (l : List A) (i : ℕ) → length l ≤ i → getElem? l i ≡ none
+element-past [] i h = refl
+element-past (x ∷ l) zero h = absurd (omega arith)
+element-past (x ∷ l) (suc i) h = element-past l i (omega arith)
 
 pub same-map : {A B : Type 0} (f g : A → B) (l : List A) → ((a : A) → f a ≡ g a) → map f l ≡ map g l
 same-map f g [] h = refl

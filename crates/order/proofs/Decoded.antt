@@ -2,15 +2,16 @@
 use mathlib.Core.Path.{_≡_, refl, sym, _∙_}
 use mathlib.Core.Bool.{Bool, true, false, true≢false}
 use mathlib.Core.Option.{Option, none, some}
-use mathlib.Core.List.{List, [], _∷_}
-use Prim.Native.Nat.{ℕ, zero, suc, _-_, _≤_, _<_}
+use mathlib.Core.List.{List, []}
+use Prim.Native.Nat.{ℕ, _-_}
 use native.Mathlib.Omega.{arith}
 use borrow.Author.Tests.{eqb-true, ltb-true, ltb-false}
 use lib.Dec.{eqb, ltb}
-use lib.ListN.{length, getD, getElem?}
+use lib.ListN.{length, getElem?}
 use Rattle.meaning.specs.Domain.{Comparison}
 use Rattle.meaning.specs.Rules.{Bytes}
 use Rattle.meaning.specs.Values.{Value, number, name, compare-values, compare-names, compare-numbers}
+use Rattle.meaning.proofs.Sets.{element-at, element-past}
 use Rattle.codes.specs.Codes.{no-value, first-name, is-number-code, number-of}
 use Rattle.codes.specs.Domains.{named, decode, compare-decoded}
 use Rattle.order.specs.Texts.{stands, text-of}
@@ -23,17 +24,6 @@ decode-number names c h = go (eqb c no-value) refl
     go true e = absurd (true≢false (sym h ∙ rw (eqb-true c no-value e)))
     go false e = rw (e, h)
 
--- what stands within a list stands there whatever the default
-within : {A : Type 0} (l : List A) (i : ℕ) (d : A) → i < length l → getElem? l i ≡ some (getD l i d)
-within [] i d h = absurd (omega arith)
-within (x ∷ l) zero d h = refl
-within (x ∷ l) (suc i) d h = within l i d (omega arith)
-
-past : {A : Type 0} (l : List A) (i : ℕ) → length l ≤ i → getElem? l i ≡ none
-past [] i h = refl
-past (x ∷ l) zero h = absurd (omega arith)
-past (x ∷ l) (suc i) h = past l i (omega arith)
-
 module _ (names : List Bytes) (count c : ℕ) (n : is-number-code c ≡ false) (l : length names ≡ count) where
   pub decode-name : stands count c ≡ true → decode names c ≡ some (name (text-of names c))
   unfolding decode named stands text-of
@@ -44,7 +34,7 @@ module _ (names : List Bytes) (count c : ℕ) (n : is-number-code c ≡ false) (
       go false true e f = absurd (true≢false (sym (rw (e, f) at h)))
       go false false e f =
           let k : ltb (c - first-name) count ≡ true = rw (e, f) at h in
-          rw (e, n, f, within names (c - first-name) [] (omega (arith, ltb-true (c - first-name) count k)))
+          rw (e, n, f, element-at names (c - first-name) [] (omega (arith, ltb-true (c - first-name) count k)))
 
   pub decode-none : stands count c ≡ false → decode names c ≡ none
   unfolding decode named stands
@@ -55,7 +45,7 @@ module _ (names : List Bytes) (count c : ℕ) (n : is-number-code c ≡ false) (
       go false true e f = rw (e, n, f)
       go false false e f =
           let k : ltb (c - first-name) count ≡ false = rw (e, f) at h in
-          rw (e, n, f, past names (c - first-name) (omega (arith, ltb-false (c - first-name) count k)))
+          rw (e, n, f, element-past names (c - first-name) (omega (arith, ltb-false (c - first-name) count k)))
 
 -- ---- comparisons of what two codes stand for
 

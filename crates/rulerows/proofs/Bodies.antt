@@ -13,6 +13,7 @@ use Rattle.meaning.specs.Rules.{Bytes}
 use Rattle.codes.specs.Related.{Pairwise, end, pair, both, neither}
 use Rattle.codes.proofs.Pairwise.{pairwise-more, pairwise-append}
 use Rattle.tables.specs.Rows.{from, no-literal, no-operation, atom-with, atom-at, head-at}
+use Rattle.tables.proofs.Strides.{from-last, from-same}
 use Rattle.rule.specs.declared.Literal as value-literal
 use Rattle.rule.specs.declared.Rule as value-rule
 use Rattle.rule.specs.Plain.{meant-head}
@@ -30,7 +31,7 @@ use Rattle.rows.proofs.Parts.{take-held, every-at}
 use Rattle.rulerows.specs.Stored.{with-row, Kept, row-at}
 use Rattle.rulerows.specs.Rules.{head-meant, HeadCoded, BodyCoded}
 use Rattle.rulerows.proofs.Stored.{put-kept-of, put-part-of, kept-self, kept-then, kept-wider, kept-part}
-use Rattle.rulerows.proofs.RowParts.{from-suc, from-same, atom-part}
+use Rattle.rulerows.proofs.RowParts.{atom-part}
 
 -- ---- the head
 
@@ -87,7 +88,7 @@ module _ (program output text : Bytes) (names₀ literals₀ : List ℕ) (first 
           let changed : Kept ((first + i) * 12) ((first + i) * 12 + 12) literals literals′ = rw s (put-kept-of literals ((first + i) * 12) row fits 12 twelve) in
           let here : row-at literals′ (first + i) ≡ row = ap (λ (t : List ℕ). row-at t (first + i)) s ∙ put-part-of literals ((first + i) * 12) row fits 12 twelve in
           let before : from (row-at literals′) i first ≡ from (row-at literals) i first = from-same (row-at literals′) (row-at literals) i first (λ k p q. kept-part changed 12 (k * 12) (omega arith)) in
-          let rows : from (row-at literals′) (i + 1) first ≡ from (row-at literals) i first ++ (row ∷ []) = rw (add-one i, from-suc (row-at literals′) i first, before, here) in
+          let rows : from (row-at literals′) (i + 1) first ≡ from (row-at literals) i first ++ (row ∷ []) = rw (add-one i, from-last (row-at literals′) i first, before, here) in
           let terms : map (literal text) (take (i + 1) (r .body)) ≡ map (literal text) (take i (r .body)) ++ (literal text (getD (r .body) i d) ∷ []) = rw (add-one i, take-suc (r .body) i d (omega arith)) (map-append (literal text) (take i (r .body)) (getD (r .body) i d ∷ [])) in
           record {
             grows = grows-then program output (g .grows) (9 * (i + 1)) (h .grows) (omega arith);

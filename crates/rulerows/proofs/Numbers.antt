@@ -4,7 +4,7 @@ use mathlib.Core.Bool.{Bool, true, false}
 use mathlib.Core.Option.{some}
 use mathlib.Core.List.{List, [], _∷_, map}
 use mathlib.Core.Logic.{inl, inr}
-use Prim.Native.Nat.{ℕ, zero, suc, _+_, _≤_, _<_}
+use Prim.Native.Nat.{ℕ, _+_, _≤_, _<_}
 use native.Mathlib.Omega.{arith}
 use lib.ListN.{length, getD, getElem?, take, drop, replicate}
 use lib.Seq.{take-take}
@@ -12,7 +12,7 @@ use Rattle.meaning.specs.Sets.{In, any}
 use Rattle.meaning.specs.Rules.{Bytes, Literal}
 use Rattle.meaning.specs.Values.{Value}
 use Rattle.meaning.specs.Safety.{Equation, equations}
-use Rattle.meaning.proofs.Booleans.{none-some}
+use Rattle.codes.proofs.Pairwise.{within}
 use Rattle.rule.specs.declared.Rule as value-rule
 use Rattle.rule.specs.declared.Atom.{Atom}
 use Rattle.rule.specs.Plain.{meant-rule}
@@ -29,14 +29,9 @@ use Rattle.rulerows.proofs.Stored.{number-of-part, put-kept-of, put-par
 
 -- ---- the scan's places lie in the body
 
-pub inside-of : {A : Type 0} (l : List A) (i : ℕ) (a : A) → getElem? l i ≡ some a → i < length l
-inside-of [] i a e = absurd (none-some e)
-inside-of (x ∷ l) zero a e = omega arith
-inside-of (x ∷ l) (suc i) a e = let h = inside-of l i a e in omega arith
-
 scanned-inside : (ms : List (Literal Value)) (places : List ℕ) (qs : List (Equation Value)) → map (getElem? ms) places ≡ map (λ q. some (as-literal q)) qs → (i : ℕ) → In i places → i < length ms
 scanned-inside ms (p ∷ places) [] e i m = let z : _≡_ {A = ℕ} 0 1 = cc in absurd (let y : ⊥ = omega arith in y)
-scanned-inside ms (p ∷ places) (q ∷ qs) e i (inl h) = let f : getElem? ms p ≡ some (as-literal q) = cc in rw h (inside-of ms p _ f)
+scanned-inside ms (p ∷ places) (q ∷ qs) e i (inl h) = let f : getElem? ms p ≡ some (as-literal q) = cc in rw h (within ms p f)
 scanned-inside ms (p ∷ places) (q ∷ qs) e i (inr h) = let f : map (getElem? ms) places ≡ map (λ q. some (as-literal q)) qs = cc in scanned-inside ms places qs f i h
 
 pub scanned-low : (r : value-rule.Rule) (s : Scan) → ((text : Bytes) → Scanned (meant text r) s) → length (r .body) ≡ 16 → (i : ℕ) → In i (take (s .count) (s .order)) → i < 16

@@ -1,31 +1,12 @@
 -- A literal is what its row says: literals with the same row are the same.
-use mathlib.Core.Path.{_≡_, refl, sym, ap, ap₂, _∙_}
-use mathlib.Core.List.{List, [], _∷_, _++_, map}
-use Prim.Native.Nat.{ℕ, zero, suc, _+_, _*_, _≤_, _<_}
+use mathlib.Core.Path.{_≡_, sym}
+use mathlib.Core.List.{List}
+use Prim.Native.Nat.{ℕ, _+_, _*_, _<_}
 use native.Mathlib.Omega.{arith}
 use lib.ListN.{getD, take, drop}
-use Rattle.tables.specs.Rows.{from, arity, literal-column, atom-at, side-at, literal-at, equation-at}
+use Rattle.tables.specs.Rows.{arity, literal-column, atom-at, side-at, literal-at, equation-at}
 use Rattle.rulerows.specs.Stored.{row-at}
 use Rattle.rulerows.proofs.Stored.{part-of-part, number-of-part}
-
--- ---- one after the other
-
-pub from-suc : {A : Type 0} (f : ℕ → A) (n k : ℕ) → from f (suc n) k ≡ from f n k ++ (f (k + n) ∷ [])
-unfolding from
-from-suc f zero k = let e : k + 0 ≡ k = omega arith in rw e
-from-suc {A} f (suc n) k = let e : suc k + n ≡ k + suc n = omega arith in ap (λ (l : List A). f k ∷ l) (from-suc f n (suc k) ∙ ap (λ (j : ℕ). from f n (suc k) ++ (f j ∷ [])) e)
-
-pub from-same : {A : Type 0} (f g : ℕ → A) (n k : ℕ) → ((l : ℕ) → k ≤ l → l < k + n → f l ≡ g l) → from f n k ≡ from g n k
-unfolding from
-from-same f g zero k h = refl
-from-same f g (suc n) k h = ap₂ (λ x xs. x ∷ xs) (h k (omega arith) (omega arith)) (from-same f g n (suc k) (λ l p q. h l (omega arith) (omega arith)))
-
-pub from-map : {A B : Type 0} (g : A → B) (f : ℕ → A) (n k : ℕ) → map g (from f n k) ≡ from (λ l. g (f l)) n k
-unfolding from
-from-map g f zero k = refl
-from-map g f (suc n) k = ap (λ xs. g (f k) ∷ xs) (from-map g f n (suc k))
-
--- ---- the row says all
 
 module _ (literals : List ℕ) (l : ℕ) where
   pub column-part : (c : ℕ) → c < 12 → literal-column literals l c ≡ getD (row-at literals l) c 0

@@ -16,8 +16,10 @@ use Rattle.codes.specs.Codes.{Distinct, Coded}
 use Rattle.codes.specs.Predicates.{CodedName}
 use Rattle.codes.specs.Related.{Pairwise, end, pair, RelatedLiteral, RelatedRule}
 use Rattle.codes.proofs.Scans.{RelatedEquation, related-equations}
+use Rattle.codes.proofs.Pairwise.{within}
 use Rattle.tables.specs.Rows.{from, literal-column, atom-at, side-at, literal-at, equation-at, no-operation, rule-column, rule-at}
 use Rattle.tables.specs.WellFormed.{Inside, SideRow, EquationRow, has-operation, RuleRow}
+use Rattle.tables.proofs.Strides.{from-same, from-map}
 use Rattle.rule.specs.declared.Literal as value-literal
 use Rattle.rule.specs.declared.Rule as value-rule
 use Rattle.safety.specs.Scanned.{meant, as-literal}
@@ -26,10 +28,9 @@ use Rattle.rows.specs.Coding.{CodedLiteral}
 use Rattle.rulerows.specs.Stored.{row-at}
 use Rattle.rulerows.specs.Places.{positive-rows, body-of, RuleNumbers}
 use Rattle.rulerows.specs.Rules.{HeadCoded, BodyCoded}
-use Rattle.rulerows.proofs.RowParts.{from-same, from-map, column-part, literal-part}
+use Rattle.rulerows.proofs.RowParts.{column-part, literal-part}
 use Rattle.rulerows.proofs.Shapes.{sort, same-sort, with-positive, sort-positive, Binds, binds, one-side, at-row, at-place}
 use Rattle.rulerows.proofs.Safe.{same-safe, same-operations, operations-are}
-use Rattle.rulerows.proofs.Numbers.{inside-of}
 
 -- ---- the body's rows
 
@@ -81,7 +82,7 @@ module _ (names : List Bytes) (literals : List ℕ) (first : ℕ) (ms : List (Li
     binding-row (i ∷ places) (q ∷ qs) e l (inl h) long =
         let f : getElem? ms i ≡ some (as-literal q) = cc in
         let b = bound-at i q f in
-        let k = inside-of ms i _ f in
+        let k = within ms i f in
         rw h (record { inside = omega arith; side = side-row (first + i) (omega arith) (omega arith) (b .built-in); left = b .low })
     binding-row (i ∷ places) (q ∷ qs) e l (inr h) long =
         let g : map (getElem? ms) places ≡ map (λ q. some (as-literal q)) qs = cc in

@@ -1,5 +1,5 @@
 -- Related rules are safe together, and have an operation together: neither looks at a value.
-use mathlib.Core.Path.{_≡_, refl, ap, ap₂, _∙_, fun-ext}
+use mathlib.Core.Path.{_≡_, refl, ap, ap₂, _∙_}
 use mathlib.Core.Bool.{Bool, true, false, _&&_, _||_, not}
 use mathlib.Core.Option.{Option}
 use mathlib.Core.List.{List, [], _∷_, map}
@@ -9,10 +9,10 @@ use Rattle.meaning.specs.Sets.{any}
 use Rattle.meaning.specs.Domain.{Comparison}
 use Rattle.meaning.specs.Values.{Value}
 use Rattle.meaning.specs.Rules.{Bytes, Term, Atom, Literal, builtin, Rule}
-use Rattle.meaning.specs.Safety.{in-term, in-atom, in-positives, term-bound, side-bound, atom-bound, literal-bound, head-bound, Equation, equations, with, bound-after, bound, safe}
-use Rattle.codes.specs.Related.{Pairwise, end, pair, Perhaps, neither, both, RelatedTerm, both-constant, both-variable, RelatedAtom, RelatedSide, both-plain, both-computed, RelatedLiteral, both-positive, both-negated, both-builtin, RelatedRule}
+use Rattle.meaning.specs.Safety.{in-positives, atom-bound, literal-bound, head-bound, Equation, equations, with, bound-after, bound, safe}
+use Rattle.codes.specs.Related.{Pairwise, end, pair, Perhaps, neither, both, RelatedTerm, RelatedAtom, both-plain, both-computed, RelatedLiteral, both-positive, both-negated, both-builtin, RelatedRule}
 use Rattle.codes.proofs.Pairwise.{Agree, same-any, same-every}
-use Rattle.codes.proofs.Scans.{RelatedEquation, related-positives, related-equations}
+use Rattle.codes.proofs.Scans.{RelatedEquation, same-term-bound, same-side-bound, same-in-positives, related-equations}
 use Rattle.tables.specs.WellFormed.{has-operation}
 use Rattle.rule.specs.declared.Literal as value-literal
 use Rattle.rule.specs.Stands.{comparison-of}
@@ -22,21 +22,6 @@ use Rattle.rulerows.specs.Places.{computes}
 -- ---- safety
 
 module _ {U W : Type 0} {R : U → W → Type 0} where
-  same-in-term : (x : ℕ) → Agree (RelatedTerm R) (in-term x) (in-term x)
-  unfolding in-term
-  same-in-term x _ _ (both-constant r) = refl
-  same-in-term x _ _ (both-variable y) = refl
-
-  same-bound : (B : ℕ → Bool) → Agree (RelatedTerm R) (term-bound B) (term-bound B)
-  unfolding term-bound
-  same-bound B _ _ (both-constant r) = refl
-  same-bound B _ _ (both-variable y) = refl
-
-  same-side : (B : ℕ → Bool) → Agree (RelatedSide R) (side-bound B) (side-bound B)
-  unfolding side-bound
-  same-side B _ _ (both-plain t) = same-bound B _ _ t
-  same-side B _ _ (both-computed t o u) = ap₂ _&&_ (same-bound B _ _ t) (same-bound B _ _ u)
-
   same-after : (B : ℕ → Bool) {ps : List (Equation U)} {qs : List (Equation W)} → Pairwise (RelatedEquation R) ps qs → bound-after B ps ≡ bound-after B qs
   unfolding bound-after
   same-after B end = refl
@@ -45,27 +30,23 @@ module _ {U W : Type 0} {R : U → W → Type 0} where
 module _ {U W : Type 0} {N : Bytes → Bytes → Type 0} {R : U → W → Type 0} where
   same-atom : (B : ℕ → Bool) → Agree (RelatedAtom N (RelatedTerm R)) (atom-bound B) (atom-bound B)
   unfolding atom-bound
-  same-atom B a b h = same-every _ _ (same-bound B) (h .arguments)
+  same-atom B a b h = same-every _ _ (same-term-bound B) (h .arguments)
 
   same-literal : (B : ℕ → Bool) → Agree (RelatedLiteral N R) (literal-bound B) (literal-bound B)
   unfolding literal-bound
   same-literal B _ _ (both-positive a) = same-atom B _ _ a
   same-literal B _ _ (both-negated a) = same-atom B _ _ a
-  same-literal B _ _ (both-builtin k t e) = ap₂ _&&_ (same-bound B _ _ t) (same-side B _ _ e)
+  same-literal B _ _ (both-builtin k t e) = ap₂ _&&_ (same-term-bound B _ _ t) (same-side-bound B _ _ e)
 
   same-head : (B : ℕ → Bool) {h : Option (Atom (Term U))} {k : Option (Atom (Term W))} → Perhaps (RelatedAtom N (RelatedTerm R)) h k → head-bound B h ≡ head-bound B k
   unfolding head-bound
   same-head B neither = refl
   same-head B (both a) = same-atom B _ _ a
 
-  same-positives : {ls : List (Literal U)} {ms : List (Literal W)} → Pairwise (RelatedLiteral N R) ls ms → in-positives ls ≡ in-positives ms
-  unfolding in-positives in-atom
-  same-positives h = fun-ext (λ x. same-any _ _ (λ a b k. same-any _ _ (same-in-term x) (k .arguments)) (related-positives h))
-
   pub same-safe : {r : Rule U} {s : Rule W} → RelatedRule N R r s → safe r ≡ safe s
   unfolding safe bound
   same-safe {r} {s} h =
-      let all : bound r ≡ bound s = ap (λ (B : ℕ → Bool). bound-after B (equations r)) (same-positives (h .body)) ∙ same-after (in-positives (s .body)) (related-equations h) in
+      let all : bound r ≡ bound s = ap (λ (B : ℕ → Bool). bound-after B (equations r)) (same-in-positives (h .body)) ∙ same-after (in-positives (s .body)) (related-equations h) in
       rw all (ap₂ _&&_ (same-head (bound s) (h .head)) (same-every _ _ (same-literal (bound s)) (h .body)))
 
   -- ---- operations

@@ -19,6 +19,7 @@ use Rattle.codes.specs.Codes.{Coded}
 use Rattle.codes.specs.Predicates.{CodedName}
 use Rattle.codes.specs.Related.{end, Perhaps, neither, both, RelatedTerm, RelatedAtom}
 use Rattle.tables.specs.Rows.{from, no-literal, atom-at, head-at}
+use Rattle.tables.proofs.Strides.{from-same}
 use Rattle.rule.specs.declared.Rule as value-rule
 use Rattle.safety.specs.Scanned.{meant, Numbered}
 use Rattle.safety.proofs.Meant.{body-length, numbered-by-one-text}
@@ -32,7 +33,7 @@ use Rattle.rulerows.specs.Stored.{Kept, row-at}
 use Rattle.rulerows.specs.Places.{RuleNumbers}
 use Rattle.rulerows.specs.Rules.{names-of-rule, HeadCoded, BodyCoded, Storable, Stores}
 use Rattle.rulerows.proofs.Stored.{inner, kept-self, kept-then, kept-wider, kept-part}
-use Rattle.rulerows.proofs.RowParts.{from-same, atom-part}
+use Rattle.rulerows.proofs.RowParts.{atom-part}
 use Rattle.rulerows.proofs.RuleRows.{rule-stands, rule-row}
 
 -- ---- variables of what has numbers are below 16

@@ -4,7 +4,6 @@ use mathlib.Core.Bool.{Bool, true, false, not, cond, _&&_, _||_, false≢true}
 use mathlib.Core.Option.{none, some, Option·map}
 use mathlib.Core.List.{List, [], _∷_, map}
 use Prim.Native.Nat.{ℕ, zero, suc, _≤_, zero-le, suc-le-suc, _<_, min}
-use native.Mathlib.Nat.{not-suc-le-zero, le-of-suc-le-suc}
 use native.Mathlib.Omega.{arith}
 use lib.Dec.{eqb, ltb}
 use lib.ListN.{length, getD, getElem?, take, length-take}
@@ -16,7 +15,7 @@ use Rattle.meaning.specs.Domain.{unequal, less, at-most, greater, at-least}
 use Rattle.meaning.specs.Rules.{Bytes, Term, Side, Literal, builtin, Rule}
 use Rattle.meaning.specs.Safety.{term-bound, side-bound, literal-bound, Equation, when, else, gain-left, gain, next-gain}
 use Rattle.meaning.proofs.Booleans.{and-left, none-some, some-inj}
-use Rattle.meaning.proofs.Sets.{at-in, every-in}
+use Rattle.meaning.proofs.Sets.{at-in, every-in, element-at, element-past}
 use Rattle.rule.specs.Stands.{comparison-of}
 use Rattle.rule.specs.declared.Term as value-term
 use Rattle.rule.specs.declared.Literal as value-literal
@@ -113,16 +112,6 @@ first-gains B (x ∷ ls) l h = go (gains B x) refl h (first-gains B ls l)
     go false e k ih = ih (rw e at k)
 
 -- ---- by position
-
-element-past : {A : Type 0} (l : List A) (i : ℕ) → length l ≤ i → getElem? l i ≡ none
-element-past [] i h = refl
-element-past (a ∷ l) zero h = absurd (not-suc-le-zero h)
-element-past (a ∷ l) (suc i) h = element-past l i (le-of-suc-le-suc h)
-
-element-at : {A : Type 0} (l : List A) (i : ℕ) (d : A) → i < length l → getElem? l i ≡ some (getD l i d)
-element-at [] i d h = absurd (not-suc-le-zero h)
-element-at (a ∷ l) zero d h = refl
-element-at (a ∷ l) (suc i) d h = element-at l i d (le-of-suc-le-suc h)
 
 element-map : {A B : Type 0} (f : A → B) (l : List A) (i : ℕ) (a : A) → getElem? l i ≡ some a → getElem? (map f l) i ≡ some (f a)
 element-map f [] i a h = absurd (none-some h)

@@ -13,6 +13,7 @@ use Rattle.meaning.specs.Rules.{Bytes}
 use Rattle.meaning.specs.Sets.{every}
 use Rattle.meaning.specs.Safety.{term-bound, side-bound, atom-bound, literal-bound, head-bound}
 use Rattle.meaning.specs.Domain.{Operation}
+use Rattle.meaning.proofs.Booleans.{and-both}
 use Rattle.grammar.specs.Tokens.{Sign, closing}
 use Rattle.grammar.specs.Trees.{Sequence, empty, _then_, count, Term, name, variable, number, negative, anonymous, Arguments, bare, parentheses, arguments, Atom, atom, Literal, positive, negated, compared, computed, Rule, fact, clause}
 use Rattle.grammar.specs.Spelling.{Mark, inside, mere, with-commas, spell-term, spell-argument, spell-arguments, spell-signed, spell-atom, spell-compared, spell-literal, spell-nth-literal}
@@ -44,9 +45,6 @@ every-more f (y ∷ l) x g h = go (f y) refl g (λ k. every-more f l x k h)
     go : (b : Bool) → f y ≡ b → (b && every f l) ≡ true → (every f l ≡ true → every f (l ▹ x) ≡ true) → (f y && every f (l ▹ x)) ≡ true
     go true e k rec = rw e (rec k)
     go false e k rec = absurd (false≢true k)
-
-and-true : (a b : Bool) → a ≡ true → b ≡ true → (a && b) ≡ true
-and-true a b e f = rw (e, f)
 
 -- ---- a variable is met at each place where one stands
 
@@ -135,12 +133,12 @@ module _ {ground : Bool} where
   literal-below vs (negated x) n h = atom-below vs inside x n h
   literal-below vs (compared t r u) n h =
       let k = rw (met-compared vs inside t r u) at h in
-      and-true _ _ (term-below vs inside t n (omega (arith, grows-term (met vs (spell-term inside t)) inside u))) (term-below (met vs (spell-term inside t)) inside u n k)
+      and-both _ _ (term-below vs inside t n (omega (arith, grows-term (met vs (spell-term inside t)) inside u))) (term-below (met vs (spell-term inside t)) inside u n k)
   literal-below vs (computed t r u o v) n h =
       let k = rw (met-computed vs inside t r u o v) at h in
       let j = grows-term (met vs (spell-compared inside t r u)) inside v in
       let i : length (met (met vs (spell-term inside t)) (spell-term inside u)) ≤ n = rw (← (met-compared vs inside t r u)) (omega arith) in
-      and-true _ _ (term-below vs inside t n (omega (arith, grows-term (met vs (spell-term inside t)) inside u))) (and-true _ _ (term-below (met vs (spell-term inside t)) inside u n i) (term-below (met vs (spell-compared inside t r u)) inside v n k))
+      and-both _ _ (term-below vs inside t n (omega (arith, grows-term (met vs (spell-term inside t)) inside u))) (and-both _ _ (term-below (met vs (spell-term inside t)) inside u n i) (term-below (met vs (spell-compared inside t r u)) inside v n k))
 
   nth : (vs : Variables) (ls : Sequence (Literal ground)) (l : Literal ground) → met vs (with-commas spell-nth-literal (ls then l)) ≡ met (met vs (with-commas spell-nth-literal ls)) (spell-literal inside l)
   nth vs ls l = met-then spell-nth-literal vs ls l ∙ met-literal (Mark.literal (suc (count ls))) inside (met vs (with-commas spell-nth-literal ls)) l

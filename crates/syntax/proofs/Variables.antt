@@ -6,7 +6,7 @@ use mathlib.Core.List.{List, [], _∷_, _++_, map, map-append}
 use Prim.Native.Nat.{ℕ, suc, _+_, _≤_, _<_}
 use native.Mathlib.Omega.{arith}
 use native.Mathlib.Numerals.{add-one}
-use lib.ListN.{length, take, drop, getD, set, length-set, length-append, drop-of-length-le, List·getD-map}
+use lib.ListN.{length, take, drop, getD, set, length-set, length-append, drop-of-length-le, List·getD-map, length-map}
 use lib.Seq.{drop-cons, take-suc-set, length-take-le, getD-take}
 use borrow.Author.Tests.{lt-ltb, le-ltb}
 use Rattle.lexis.specs.declared.Place.{Place}
@@ -28,16 +28,12 @@ use Rattle.rule.specs.Build.{noPlace, withPlace}
 use Rattle.syntax.specs.Reads.{Fits}
 use Rattle.syntax.specs.Terms.{first-among}
 
-length-map : {A B : Type 0} (f : A → B) (l : List A) → length (map f l) ≡ length l
-length-map f [] = refl
-length-map f (x ∷ l) = ap suc (length-map f l)
-
 -- ---- how many there are, and one more
 
 module _ (text : Bytes) (v : Variables) (fits : Fits v) where
   pub count-names : length (variables-of text v) ≡ v .count
   unfolding variables-of
-  count-names = length-map _ (take (v .count) (v .places)) ∙ length-take-le (v .count) (v .places) (omega (arith, fits .few, fits .room))
+  count-names = length-map (take (v .count) (v .places)) _ ∙ length-take-le (v .count) (v .places) (omega (arith, fits .few, fits .room))
 
   module _ (place : Place) (room : v .count < 16) where
     pub one-more : Fits (withPlace v place)
@@ -83,7 +79,7 @@ module _ (text : Bytes) (b : Bytes) (v : Variables) (fits : Fits v) (i : ℕ) wh
   met-names = map (part text) (take (v .count) (v .places))
 
   how-many : length met-names ≡ v .count
-  how-many = length-map (part text) (take (v .count) (v .places)) ∙ length-take-le (v .count) (v .places) (omega (arith, fits .few, fits .room))
+  how-many = length-map (take (v .count) (v .places)) (part text) ∙ length-take-le (v .count) (v .places) (omega (arith, fits .few, fits .room))
 
   module _ (h : i < v .count) (x y : Bytes) (ex : x ≡ b) (ey : y ≡ part text (getD (v .places) i noPlace)) (r : Bool) (er : r ≡ same-bytes x y) where
     same-here : same-bytes b (getD met-names i []) ≡ r

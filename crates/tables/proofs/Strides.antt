@@ -1,8 +1,8 @@
 -- Laws of things at fixed strides: `from`, members by place, and parts.
-use mathlib.Core.Path.{_≡_, refl, sym, ap, _∙_}
+use mathlib.Core.Path.{_≡_, refl, sym, ap, ap₂, _∙_}
 use mathlib.Core.Logic.{inl, inr}
 use mathlib.Core.Option.{some}
-use mathlib.Core.List.{List, [], _∷_, map}
+use mathlib.Core.List.{List, [], _∷_, _++_, map}
 use Prim.Native.Nat.{ℕ, zero, suc, _+_, _-_, _≤_, _<_}
 use native.Mathlib.Omega.{arith}
 use lib.ListN.{length, getD, getElem?, take, drop, length-drop}
@@ -34,6 +34,21 @@ pub from-end : {A : Type 0} (f : ℕ → A) (n k : ℕ) → n ≤ k → from f (
 unfolding from
 from-end f n k h = let e : n - k ≡ 0 = omega arith in rw e
 
+pub from-last : {A : Type 0} (f : ℕ → A) (n k : ℕ) → from f (suc n) k ≡ from f n k ++ (f (k + n) ∷ [])
+unfolding from
+from-last f zero k = let e : k + 0 ≡ k = omega arith in rw e
+from-last {A} f (suc n) k = let e : suc k + n ≡ k + suc n = omega arith in ap (λ (l : List A). f k ∷ l) (from-last f n (suc k) ∙ ap (λ (j : ℕ). from f n (suc k) ++ (f j ∷ [])) e)
+
+pub from-same : {A : Type 0} (f g : ℕ → A) (n k : ℕ) → ((l : ℕ) → k ≤ l → l < k + n → f l ≡ g l) → from f n k ≡ from g n k
+unfolding from
+from-same f g zero k h = refl
+from-same f g (suc n) k h = ap₂ (λ x xs. x ∷ xs) (h k (omega arith) (omega arith)) (from-same f g n (suc k) (λ l p q. h l (omega arith) (omega arith)))
+
+pub from-map : {A B : Type 0} (g : A → B) (f : ℕ → A) (n k : ℕ) → map g (from f n k) ≡ from (λ l. g (f l)) n k
+unfolding from
+from-map g f zero k = refl
+from-map g f (suc n) k = ap (λ xs. g (f k) ∷ xs) (from-map g f n (suc k))
+
 -- what stands at a place is a member
 pub at-member : (l : List ℕ) (i : ℕ) → i < length l → In (getD l i 0) l
 at-member [] i h = absurd (omega arith)
@@ -41,10 +56,6 @@ at-member (x ∷ xs) zero h = inl refl
 at-member (x ∷ xs) (suc i) h = inr (at-member xs i (omega arith))
 
 -- ---- parts of lists
-
-pub map-length : {A B : Type 0} (f : A → B) (l : List A) → length (map f l) ≡ length l
-map-length f [] = refl
-map-length f (x ∷ xs) = ap suc (map-length f xs)
 
 -- a part that lies in a list
 pub part-length : (n k : ℕ) (l : List ℕ) → k + n ≤ length l → length (take n (drop k l)) ≡ n
