@@ -24,9 +24,9 @@ use Rattle.grammar.specs.Variables.{Variables, meet}
 use Rattle.grammar.specs.Sizes.{too-big, refusal, fault, language, greatest-number}
 use Rattle.grammar.specs.Abstraction.{value-for, values-for, argument-values-for, fact-for}
 use Rattle.grammar.proofs.Plainer.{All}
+use Rattle.grammar.proofs.Prefixes.{Prefix, same, more}
 use Rattle.syntax.specs.Text.{token-of, placed-token}
 use Rattle.syntax.specs.Programs.{ReadAs}
-use Rattle.plainform.proofs.Prefixes.{Prefix, same, more}
 use Rattle.rows.specs.Codable.{Every, CodableTerm, CodableAtom}
 use Rattle.rulerows.specs.Facts.{as-atom}
 

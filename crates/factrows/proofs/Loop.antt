@@ -21,6 +21,7 @@ use Rattle.grammar.specs.Trees.{empty, _then_, count, Rule as Tree, Program}
 use Rattle.grammar.specs.Sizes.{too-many}
 use Rattle.grammar.specs.Abstraction.{fact-for, facts-for}
 use Rattle.grammar.proofs.Facts.{fact-rule}
+use Rattle.grammar.proofs.Prefixes.{rules-begin}
 use Rattle.rule.specs.declared.Rule.{Rule}
 use Rattle.rule.specs.Plain.{meant-atom, meant-head, meant-rule}
 use Rattle.rule.specs.Stands.{atom-of, head-of, rule-of}
@@ -32,7 +33,6 @@ use Rattle.syntax.specs.Programs.{ReadAs}
 use Rattle.syntax.proofs.Lists.{too-many-next}
 use Rattle.syntax.proofs.Programs.{answer-of}
 use Rattle.syntax.proofs.Written.{fact-meant}
-use Rattle.plainform.proofs.Prefixes.{rules-begin}
 use Rattle.codes.specs.Codes.{no-value, Coded}
 use Rattle.codes.specs.Predicates.{CodedName}
 use Rattle.codes.specs.Related.{Pairwise, end, pair, RelatedAtom}

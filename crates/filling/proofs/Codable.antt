@@ -23,9 +23,9 @@ use Rattle.grammar.specs.Sizes.{too-big}
 use Rattle.grammar.specs.Variables.{Variables, met}
 use Rattle.grammar.specs.Abstraction.{term-for, terms-for, arguments-for, atom-for, literal-for, literals-for, rule-for, rules-for}
 use Rattle.grammar.proofs.Plainer.{All}
+use Rattle.grammar.proofs.Prefixes.{Prefix, same, more}
 use Rattle.syntax.specs.Written.{rule-variables}
 use Rattle.syntax.proofs.Numbered.{below, rule-below}
-use Rattle.plainform.proofs.Prefixes.{Prefix, same, more}
 use Rattle.rows.specs.Codable.{Every, CodableTerm, CodableAtom, CodableLiteral, CodableRule}
 use Rattle.filling.proofs.Fit.{Fit}
 

@@ -14,3 +14,4 @@ pub mod PlainForm
 pub mod Apart
 pub mod PlainTheorems
 pub mod Walks
+pub mod Prefixes

@@ -13,6 +13,7 @@ use Rattle.reading.specs.Reading.{Answer, tree, refused}
 use Rattle.meaning.specs.Rules.{Bytes}
 use Rattle.grammar.specs.Trees.{empty, _then_, count, Rule as Tree, Program}
 use Rattle.grammar.specs.Sizes.{too-many}
+use Rattle.grammar.proofs.Prefixes.{rules-begin}
 use Rattle.rule.specs.Stands.{rule-of}
 use Rattle.syntax.specs.declared.body.RuleRead.{RuleRead}
 use Rattle.syntax.specs.Text.{placed-from, end-of}
@@ -23,8 +24,7 @@ use Rattle.syntax.proofs.Programs.{answer-of}
 use Rattle.plainform.specs.PlainRules.{plain-rules}
 use Rattle.plainform.specs.PlainBytes.{ReadAs, plain-bytes}
 use Rattle.plainform.specs.RuleBytes.{rule-bytes, rules-bytes}
-use Rattle.plainform.proofs.RuleBytes.{rules-on, plain-bytes-of-rules}
-use Rattle.plainform.proofs.Prefixes.{rules-begin, prefix-shorter}
+use Rattle.plainform.proofs.RuleBytes.{rules-on, plain-bytes-of-rules, prefix-shorter}
 use Rattle.plainform.proofs.Theorems.{plain-no-longer}
 use Rattle.plainrule.specs.Put.{Room, Put}
 use Rattle.plainrule.proofs.Puts.{put-none, put-then}

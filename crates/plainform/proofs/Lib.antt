@@ -5,4 +5,3 @@ pub mod Again
 pub mod Inside
 pub mod Theorems
 pub mod RuleBytes
-pub mod Prefixes

@@ -3,7 +3,9 @@ use mathlib.Core.Path.{_≡_, refl, _∙_}
 use mathlib.Core.Bool.{Bool, true, false}
 use mathlib.Core.Option.{Option, none, some}
 use mathlib.Core.List.{List, [], _∷_, _++_, append-assoc, append-nil}
-use Prim.Native.Nat.{ℕ, zero, suc}
+use Prim.Native.Nat.{ℕ, zero, suc, _≤_}
+use native.Mathlib.Omega.{arith}
+use lib.ListN.{length, length-append}
 use Rattle.reading.specs.Reading.{Marked, _at_, _▹_, tokens}
 use Rattle.reading.proofs.Lists.{tokens-append}
 use Rattle.meaning.specs.Domain.{Operation, unequal}
@@ -18,6 +20,7 @@ use Rattle.grammar.specs.Writing.{symbol-bytes, comparison-bytes, sign-bytes, t
 use Rattle.grammar.proofs.Plainer.{is-not, behind-not, gap, spaced}
 use Rattle.grammar.proofs.Apart.{program-apart}
 use Rattle.grammar.proofs.PlainTheorems.{written-spaced}
+use Rattle.grammar.proofs.Prefixes.{Prefix}
 use Rattle.rule.specs.Plain.{PlainTerm, PlainLiteral, PlainRule}
 use Rattle.rule.specs.Stands.{signed}
 use Rattle.syntax.specs.Written.{plain-term, plain-terms, plain-arguments, plain-atom, plain-literal, plain-literals, plain-head, head-variables, plain-rule}
@@ -179,3 +182,9 @@ module _ {ground : Bool} where
 pub plain-bytes-of-rules : (p : Program false) → plain-bytes p ≡ rules-bytes (plain-rules p)
 unfolding spaced
 plain-bytes-of-rules p = written-spaced (tokens (spell (form.plain-form p))) (program-apart (form.plain-form p)) ∙ (simp append-nil at (rules-give p .before []))
+
+-- the bytes of the rules that begin a program are no more than its own
+pub prefix-shorter : {ground : Bool} {p c : Program ground} → Prefix p c → length (rules-bytes (plain-rules p)) ≤ length (rules-bytes (plain-rules c))
+unfolding plain-rules
+prefix-shorter Prefix.same = omega arith
+prefix-shorter (Prefix.more {c} r h) = let l = prefix-shorter h in rw (rules-on (plain-rules c) (plain-rule r), length-append (rules-bytes (plain-rules c)) (rule-bytes (plain-rule r))) (omega arith)

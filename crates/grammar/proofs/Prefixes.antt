@@ -1,4 +1,4 @@
--- The rules that have been read begin the program that is read in the end, and their bytes begin its bytes.
+-- The rules that have been read begin the program that is read in the end.
 use mathlib.Core.Path.{_≡_, refl, sym as inv, _∙_}
 use mathlib.Core.Bool.{Bool, true, false}
 use mathlib.Core.Option.{Option, none, some}
@@ -11,18 +11,14 @@ use Rattle.reading.specs.Machine.{Step, last, walk}
 use Rattle.reading.proofs.Lists.{none-some, some-inj}
 use Rattle.reading.proofs.Walks.{walk-on, walk-fault, walk-wrong}
 use Rattle.meaning.specs.Rules.{Bytes}
 use Rattle.grammar.specs.Tokens.{Token}
 use Rattle.grammar.specs.Trees.{empty, _then_, Term, bare, Atom, atom, Literal, Rule, Program, positive, negated, compared, computed}
 use Rattle.grammar.specs.Spelling.{Mark}
 use Rattle.grammar.specs.Variables.{Variables, meet}
 use Rattle.grammar.specs.Sizes.{fault, language}
 use Rattle.grammar.specs.States.{BodyContext, AtomContext, head-behind, literal-in, not-in, TermContext, argument-in, left-in, right-in, operand-in, State, atom-wanted, atom-minus, named, opened, closed, term-wanted, term-minus, term-read}
 use Rattle.grammar.specs.Machine.{after-literal, after-atom, after-term, else-wanted, else-minus, else-named, a-term, moves, step, finished-atom, finished, machine}
 use Rattle.grammar.proofs.Moves.{OnMove, OnMoves, on-append, on-free, try-all}
-use Rattle.syntax.specs.Written.{plain-rule}
-use Rattle.plainform.specs.PlainRules.{plain-rules}
-use Rattle.plainform.specs.RuleBytes.{rule-bytes, rules-bytes}
-use Rattle.plainform.proofs.RuleBytes.{rules-on}
 
 -- c is p, or p with more rules behind it
 pub data Prefix {ground : Bool} (p : Program ground) : Program ground → Type 0 where
@@ -147,13 +143,8 @@ module _ {ground : Bool} where
       go none q rec = absurd (not-refused 2 (t .place) c (inv (walk-wrong (language ground) (machine ground) s vs end t ts q) ∙ e))
       go (some x) q rec = size x q (fault ground vs (t .token at x .mark)) refl (rec x)
 
-  -- ---- the statements
+  -- ---- the statement
 
   pub rules-begin : {P : Type 0} (ts : List (Placed P Token)) (p : Program ground) (vs : Variables) (end : P) (c : Program ground) → walk (language ground) (machine ground) (atom-wanted (head-behind p)) vs end ts ≡ tree c → Prefix p c
   unfolding rules-in atom-rules
   rules-begin ts p vs end c e = walk-prefix ts (atom-wanted (head-behind p)) vs end c e
-
-  pub prefix-shorter : {p c : Program ground} → Prefix p c → length (rules-bytes (plain-rules p)) ≤ length (rules-bytes (plain-rules c))
-  unfolding plain-rules
-  prefix-shorter same = omega arith
-  prefix-shorter (more {c} r h) = let l = prefix-shorter h in rw (rules-on (plain-rules c) (plain-rule r), length-append (rules-bytes (plain-rules c)) (rule-bytes (plain-rule r))) (omega arith)
