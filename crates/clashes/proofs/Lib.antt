@@ -1,4 +1,3 @@
 pub mod Signs
 pub mod Rows
 pub mod Search
-pub mod Once

@@ -129,9 +129,6 @@ module _ (program output : Bytes) (names₀ rules₀ literals₀ : List ℕ) (f 
         ll : (n * 17 + 17) * 12 ≤ length literals′
         ll = let k = filling-room in let a = g .literals-kept .long in let b = f .literals-long in let e = s .literals-kept .long in omega arith
 
-        rules-of-before : take (n * 40) rules′ ≡ take (n * 40) rules
-        rules-of-before = s .rules-kept .before
-
         agrees : (k : ℕ) → k < n → Agrees (take (n * 40) rules) (take (n * 40 + 40) rules′) (take (n * 17 * 12) literals) (take ((n * 17 + 17) * 12) literals′) k
         agrees k h =
             let la : length (take (n * 40) rules) ≡ n * 40 = length-take-le (n * 40) rules (let e = s .rules-kept .long in let q = rl in omega arith) in

@@ -13,5 +13,4 @@ pub mod Plainer
 pub mod PlainForm
 pub mod Apart
 pub mod PlainTheorems
-pub mod Walks
 pub mod Prefixes

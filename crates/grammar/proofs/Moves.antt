@@ -39,10 +39,6 @@ same-symbol s z h = inv (symbol-back s) ∙ ap symbol-at (eqb-true (symbol-numbe
 
 -- ---- free moves
 
-pub free-of : (ground : Bool) → ground ≡ false → Free ground
-free-of true e = let z : _≡_ {A = ℕ} 0 1 = cc in absurd (omega arith)
-free-of false e = tt
-
 pub free-given : {S : Type 0} (ground : Bool) (f : Free ground → List (Move S)) (u : Free ground) → free-moves ground f ≡ f u
 unfolding free-moves
 free-given true f u = absurd u

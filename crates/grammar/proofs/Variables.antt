@@ -1,12 +1,12 @@
 -- Laws about the variables that are met: they depend on the tokens alone, and a facts line has none.
 use mathlib.Core.Path.{_≡_, refl, sym as inv, ap, _∙_}
 use mathlib.Core.Bool.{Bool, true, false, cond}
-use mathlib.Core.Option.{Option, none, some}
+use mathlib.Core.Option.{none, some}
 use mathlib.Core.List.{[], _∷_, _++_}
-use Prim.Native.Nat.{suc, _≤_, _<_}
+use Prim.Native.Nat.{suc, _≤_}
 use native.Mathlib.Omega.{arith}
 use lib.ListN.{length}
-use Rattle.reading.specs.Reading.{_▹_, tokens, seen}
+use Rattle.reading.specs.Reading.{tokens, seen}
 use Rattle.reading.proofs.Lists.{tokens-append}
 use Rattle.meaning.specs.Rules.{Bytes}
 use Rattle.meaning.specs.Values.{same-bytes}
@@ -107,14 +107,3 @@ number-at-most b (some c ∷ vs) = go (same-bytes b c) (number-at-most b vs)
     go : (e : Bool) → number-of b vs ≤ length vs → cond e 0 (suc (number-of b vs)) ≤ suc (length vs)
     go true h = omega arith
     go false h = omega arith
-
--- a variable keeps its number as more are met
-pub number-kept : (b : Bytes) (vs : Variables) (v : Option Bytes) → number-of b vs < length vs → number-of b (vs ▹ v) ≡ number-of b vs
-unfolding number-of
-number-kept b [] v h = absurd (omega arith)
-number-kept b (none ∷ vs) v h = ap suc (number-kept b vs v (omega arith))
-number-kept b (some c ∷ vs) v h = go (same-bytes b c) h (number-kept b vs v)
-  where
-    go : (e : Bool) → cond e 0 (suc (number-of b vs)) < suc (length vs) → (number-of b vs < length vs → number-of b (vs ▹ v) ≡ number-of b vs) → cond e 0 (suc (number-of b (vs ▹ v))) ≡ cond e 0 (suc (number-of b vs))
-    go true k rec = refl
-    go false k rec = ap suc (rec (omega arith))

@@ -1,5 +1,4 @@
--- Laws of numbering: an answer is the only one, what has a number keeps it, a number's code stands for its name, and a table with room
--- turns no name away.
+-- Laws of numbering: an answer is the only one, a number's code stands for its name, and a table with room turns no name away.
 use mathlib.Core.Path.{_≡_, refl, sym, ap, _∙_}
 use mathlib.Core.Logic.{_⊎_, inl, inr}
 use mathlib.Core.Option.{some}
@@ -8,10 +7,10 @@ use Prim.Native.Nat.{ℕ, _+_, _≤_, _<_}
 use native.Mathlib.Omega.{arith}
 use lib.ListN.{length, getElem?, length-append}
 use Rattle.meaning.specs.Rules.{Bytes}
-use Rattle.meaning.specs.Values.{Value, name}
+use Rattle.meaning.specs.Values.{name}
 use Rattle.codes.specs.Codes.{first-name, Distinct, Coded, as-name}
 use Rattle.codes.specs.Predicates.{CodedName}
-use Rattle.codes.proofs.Names.{last-at, distinct-more, coded-more, coded-name-more}
+use Rattle.codes.proofs.Names.{last-at}
 use Rattle.names.specs.declared.Found.{Found}
 use Rattle.names.specs.declared.Found.the-variants.{At, Nothing}
 use Rattle.names.specs.Table.{most-names, count, name-at, names-of, Table}
@@ -47,10 +46,6 @@ module _ (names : List Bytes) (n : Bytes) where
   grown-length _ i (held h) = omega arith
   grown-length _ _ (added h) = rw (length-append names (n ∷ [])) (omega arith)
 
-  pub grown-distinct : (after : List Bytes) (i : ℕ) → Grown names n after i → Distinct names → (n ≡ [] → ⊥) → Distinct after
-  grown-distinct _ i (held h) d nonempty = d
-  grown-distinct _ _ (added h) d nonempty = distinct-more names n d h nonempty
-
   pub grown-once : Distinct names → (a b : List Bytes) (i j : ℕ) → Grown names n a i → Grown names n b j → (a ≡ b) × (i ≡ j)
   grown-once d _ _ i j (held p) (held q) = (refl, d .once i j n p q)
   grown-once d _ _ i _ (held p) (added q) = absurd (q i p)
@@ -64,13 +59,6 @@ module _ (names : List Bytes) (n : Bytes) where
 
     pub grown-coded-name : CodedName after (i ∷ []) n
     grown-coded-name = record { place = i; is-place = refl; is-name = grown-at after i g }
-
-    -- every code keeps its value
-    pub grown-keeps : (c : ℕ) (v : Value) → Coded names c v → Coded after c v
-    grown-keeps c v h = rw (grown-list after i g) (coded-more names (behind after i g) c v h)
-
-    pub grown-keeps-name : (c m : Bytes) → CodedName names c m → CodedName after c m
-    grown-keeps-name c m h = rw (grown-list after i g) (coded-name-more names (behind after i g) c m h)
 
 -- ---- interning
 

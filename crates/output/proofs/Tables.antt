@@ -1,12 +1,12 @@
 -- The tables of the facts' places, filled one fact after the other.
-use mathlib.Core.Path.{_≡_, refl, sym as inv, ap, _∙_}
+use mathlib.Core.Path.{_≡_, refl, ap, _∙_}
 use mathlib.Core.Bool.{Bool, true, false}
 use mathlib.Core.List.{List}
 use Prim.Native.Nat.{ℕ, _+_, _-_, _≤_, _<_}
 use native.Mathlib.Omega.{arith}
 use lib.Dec.{ltb}
 use lib.ListN.{length, take, drop, getD, set, length-set, length-take, length-drop}
-use lib.Seq.{getD-set-same, getD-set-other, ext-getD}
+use lib.Seq.{getD-set-same, getD-set-other}
 use borrow.Author.Tests.{ltb-true, ltb-false}
 use Rattle.lexis.specs.declared.Place.{Place}
 use Rattle.meaning.specs.Rules.{Bytes}
@@ -32,13 +32,6 @@ filled-more f n before l p room v e =
     one : (k : ℕ) (b : Bool) → ltb k n ≡ b → k < n + 1 → getD (set l n v) k 0 ≡ f k
     one k true q h = let less = ltb-true k n q in getD-set-other l n k v 0 (λ z. omega arith) ∙ p .first k less
     one k false q h = let same : k ≡ n = omega (arith, ltb-false k n q) in rw same (getD-set-same l n v 0 room ∙ e)
-
-pub filled-unique : (f : ℕ → ℕ) (n : ℕ) (before l m : List ℕ) → Filled f n before l → Filled f n before m → l ≡ m
-filled-unique f n before l m p q = ext-getD 0 l m (p .same-size ∙ inv (q .same-size)) (λ k h. one k (ltb k n) refl)
-  where
-    one : (k : ℕ) (b : Bool) → ltb k n ≡ b → getD l k 0 ≡ getD m k 0
-    one k true e = let h = ltb-true k n e in p .first k h ∙ inv (q .first k h)
-    one k false e = let h = ltb-false k n e in p .later k h ∙ inv (q .later k h)
 
 -- ---- the loop: so many facts' places stand in the tables, and here the tokens behind them begin
 
@@ -93,7 +86,3 @@ module _ (text : Bytes) (line : Place) where
         starts-hold = rw (all, len) at (g .starts-filled);
         lengths-hold = rw (all, len) at (g .lengths-filled);
       }
-
--- the tables that a call leaves are the only ones
-pub fact-places-unique : (text : Bytes) (line : Place) (count : ℕ) (starts s s′ lengths l l′ : List ℕ) → FactPlaces text line count starts s lengths l → FactPlaces text line count starts s′ lengths l′ → (s ≡ s′) × (l ≡ l′)
-fact-places-unique text line count starts s s′ lengths l l′ p q = (filled-unique _ count starts s s′ (p .starts-hold) (q .starts-hold), filled-unique _ count lengths l l′ (p .lengths-hold) (q .lengths-hold))

@@ -124,13 +124,3 @@ module _ (text : Bytes) (r : OutputRead) (g : ReadsOutput text r) where
       go (on claim-none) s e = rw e s
       go (on claim-unknown) s e = rw e s
       go (stop m p) s e = absurd (let k = refusal text s .number in let q : r .code ≡ m = ap (λ (x : OutputRead). x .code) e in omega arith)
-
-  -- the place of a refusal, or none, lies inside the output
-  pub output-inside : r .place .start + r .place .len ≤ length text
-  output-inside = go (g .outcome) (g .stage) (g .so)
-    where
-      go : (o : Outcome Report) → OutputStage text o → r ≡ fields o → r .place .start + r .place .len ≤ length text
-      go (on (facts line fs)) s e = rw e (omega arith)
-      go (on claim-none) s e = rw e (omega arith)
-      go (on claim-unknown) s e = rw e (omega arith)
-      go (stop m p) s e = rw e (refusal text s .inside)

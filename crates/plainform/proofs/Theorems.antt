@@ -14,10 +14,10 @@ use Rattle.grammar.specs.Spelling.{spell}
 use Rattle.grammar.specs.Sizes.{programs}
 use Rattle.grammar.specs.Abstraction.{rules-for}
 use Rattle.grammar.specs.PlainForm.{plain-form}
-use Rattle.grammar.specs.Writing.{comparison-bytes, sign-bytes, token-bytes, written, Apart}
+use Rattle.grammar.specs.Writing.{comparison-bytes, sign-bytes, token-bytes, written}
 use Rattle.grammar.proofs.Plainer.{All}
 use Rattle.grammar.proofs.Apart.{program-apart}
-use Rattle.grammar.proofs.PlainTheorems.{plain-reads, plain-same, plain-twice, plain-shorter, plain-kept, plain-apart}
+use Rattle.grammar.proofs.PlainTheorems.{plain-reads, plain-same, plain-twice, plain-shorter, plain-kept}
 use Rattle.syntax.specs.Text.{placed-from, end-of}
 use Rattle.plainform.specs.PlainBytes.{ReadAs, plain-bytes}
 use Rattle.plainform.proofs.Proper.{comparison-kind, sign-kind, kind-for, Proper}
@@ -73,7 +73,3 @@ module _ (text : Bytes) (c : Program false) (r : ReadAs text c) where
   -- they are no longer than the text
   pub plain-no-longer : length (plain-bytes c) ≤ length text
   plain-no-longer = let h = plain-shorter c in let l = shorter-tokens in omega arith
-
-  -- only between `not` and a name stands a blank
-  pub plain-blanks : Apart (tokens (spell (plain-form c)))
-  plain-blanks = plain-apart c

@@ -35,9 +35,6 @@ room-rest {l} {m} {at} {n} {a} b p h = omega (arith, length-append a b, p .next)
 
 -- ---- one byte
 
-pub put-inside : (buffer : Bytes) (at byte : ℕ) → Put buffer at (byte ∷ []) (at + 1) (set buffer at byte)
-put-inside buffer at byte = record { next = refl; laid = refl }
-
 pub put-outside : (buffer : Bytes) (at byte : ℕ) → length buffer ≤ at → Put buffer at (byte ∷ []) (at + 1) buffer
 put-outside buffer at byte h = record { next = refl; laid = inv (set-out buffer at byte h) }
 

@@ -28,7 +28,7 @@ module _ (word line : List ℕ) (i : ℕ) where
     unfolding startsWith
     starts-on e = rw (drop-at word i h, drop-at line i k, eq-eqb _ _ e)
 
--- the bytes are the word and anything behind it, and such bytes start with the word
+-- the bytes are the word and anything behind it
 pub starts-with : (word bytes : List ℕ) → startsWith word bytes ≡ true → bytes ≡ word ++ drop (length word) bytes
 unfolding startsWith
 starts-with [] bytes e = refl
@@ -38,8 +38,3 @@ starts-with (w ∷ word) (b ∷ bytes) e =
     let first : b ≡ w = eqb-true b w (h .0) in
     let rest : bytes ≡ word ++ drop (length word) bytes = starts-with word bytes (h .1) in
     cc
-
-pub with-word : (word rest : List ℕ) → startsWith word (word ++ rest) ≡ true
-unfolding startsWith
-with-word [] rest = refl
-with-word (w ∷ word) rest = rw (eq-eqb w w refl) (with-word word rest)

@@ -3,13 +3,12 @@ use mathlib.Core.Path.{_≡_, refl, sym, _∙_}
 use mathlib.Core.Bool.{Bool, true, false, not, _&&_, false≢true}
 use mathlib.Core.Option.{Option, none, some}
 use mathlib.Core.List.{List}
-use Prim.Native.Nat.{ℕ, _≤_, _<_}
-use native.Mathlib.Omega.{arith}
+use Prim.Native.Nat.{ℕ, _<_}
 use lib.Dec.{ltb}
 use lib.ListN.{length}
-use borrow.Author.Tests.{ltb-true, lt-ltb}
+use borrow.Author.Tests.{ltb-true}
 use Rattle.meaning.specs.Sets.{every, _⊆_}
-use Rattle.meaning.specs.Rules.{Bytes, Term, constant, variable, Atom, Side, plain, computed, Literal, positive, negated, builtin, Rule}
+use Rattle.meaning.specs.Rules.{Term, constant, variable, Atom, Side, plain, computed, Literal, positive, negated, builtin, Rule}
 use Rattle.meaning.specs.Herbrand.{in-rule}
 use Rattle.meaning.specs.Safety.{term-bound, side-bound, atom-bound, literal-bound, head-bound, bound, safe}
 use Rattle.meaning.proofs.Booleans.{and-left, and-right, and-both}
@@ -18,9 +17,7 @@ use Rattle.meaning.proofs.Herbrand.{bound-where-safe}
 use Rattle.lexis.specs.declared.Place.{Place}
 use Rattle.rule.specs.declared.Rule as value-rule
 use Rattle.safety.specs.declared.Unbound.{Unbound}
-use Rattle.safety.specs.Scanned.{meant, Numbered}
 use Rattle.safety.specs.Unbound.{FirstUnbound, found, all-bound}
-use Rattle.safety.proofs.Meant.{numbered-by-one-text}
 use Rattle.safety.proofs.FirstUnbound.{AllBelow}
 
 -- ---- where more is bound, what was bound still is
@@ -53,12 +50,6 @@ module _ {U : Type 0} (B C : ℕ → Bool) (more : B ⊆ C) where
   unfolding head-bound
   head-more none k = refl
   head-more (some a) k = atom-more a k
-
--- numbers that are low enough beside one text are right beside every text
-pub numbered-below : (text : Bytes) (r : value-rule.Rule) (n : ℕ) → n ≤ 16 → every (literal-bound (λ x. ltb x n)) (meant text r .body) ≡ true → Numbered r
-numbered-below text r n h numbers =
-    let more : (λ x. ltb x n) ⊆ (λ x. ltb x 16) = λ x k. let low = ltb-true x n k in lt-ltb x 16 (omega arith) in
-    numbered-by-one-text text r (every-more _ _ (meant text r .body) (literal-more _ _ more) numbers)
 
 -- ---- safe
 

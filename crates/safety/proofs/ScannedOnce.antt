@@ -29,15 +29,11 @@ module _ {A : Type 0} (g : ℕ → A) where
       let same : x ≡ y = omega arith in
       ap₂ (λ (n : ℕ) (r : List ℕ). n ∷ r) same (same-places k l (tail-eq-of-cons-eq e) (λ i j m. p i j (inr m)) (λ i j m. q i j (inr m)))
 
--- the lengths of the arrays, which every value of the type has
-pub record Sized (s : Scan) : Type 0 where
-  pub bits-sized : length (s .bound .bits) ≡ 16
-  pub order-sized : length (s .order) ≡ 16
-
-pub scanned-once : (m : Rule Value) (s t : Scan) → Sized s → Sized t → Scanned m s → Scanned m t → s ≡ t
+-- every value of the type has 16 bits
+pub scanned-once : (m : Rule Value) (s t : Scan) → length (s .bound .bits) ≡ 16 → length (t .bound .bits) ≡ 16 → Scanned m s → Scanned m t → s ≡ t
 unfolding bitsOf
 scanned-once m s t long also p q =
-    let bits : s .bound .bits ≡ t .bound .bits = ext-getD false _ _ (long .bits-sized ∙ sym (also .bits-sized)) (λ i h. p .bits i ∙ sym (q .bits i)) in
+    let bits : s .bound .bits ≡ t .bound .bits = ext-getD false _ _ (long ∙ sym also) (λ i h. p .bits i ∙ sym (q .bits i)) in
     let counts : s .count ≡ t .count = p .count ∙ sym (q .count) in
     let places : take (s .count) (s .order) ≡ take (t .count) (t .order) = same-places (getElem? (m .body)) _ _ (p .places ∙ sym (q .places)) (p .first) (q .first) in
     let others : drop (s .count) (s .order) ≡ drop (t .count) (t .order) = p .unused ∙ ap (λ (n : ℕ). replicate (16 - n) 0) counts ∙ sym (q .unused) in

@@ -73,9 +73,6 @@ module _ (ground : Bool) (text : Bytes) (at : ℕ) (t : TokenRead) (et : t ≡ t
   pub part-length : length (part text (t .place)) ≡ t .place .len
   part-length = let w = place-within in simp (length-take, length-drop) (omega arith)
 
-  kind-is : kindAt (t .kind) ≡ next .kind
-  kind-is = rw et (kind-at-number (next .kind))
-
   -- the grammar's token
   abbrev pub token-here : Token
   token-here = token-by (t .kind) (part text (t .place))
