@@ -125,7 +125,7 @@ module _ (names : List Bytes) (P : List (Rule ℕ)) (facts : List ℕ) (n : ℕ)
     judged-broken h b k e l q = record { says = rw (k, said, e, l, q) (outcome-broken names P I (passed .in-range h) (p .rule) (take (p .length) (p .positions)) (rw b at (passed .first-broken h))); lent = rw (k, Lent) refl; none-behind = rw (k, NoneBehind) tt }
 
   -- the rounds decide
-  module _ (in-range : overflow (codes names) code-in-range P I ≡ none) (unbroken : broken (codes names) P I ≡ none) (table table′ : List ℕ) (set : Derived) (k t : ℕ) (found : RoundsOf (codes names) P I table table′ set k t) (few : n ≤ places) where
+  module _ (in-range : overflow (codes names) code-in-range P I ≡ none) (unbroken : broken (codes names) P I ≡ none) (table table′ : List ℕ) (set : Derived) (k : ℕ) (found : RoundsOf (codes names) P I table table′ set k) (few : n ≤ places) where
     sized : size set ≡ count (holds set) n
     sized = size-below set n few (λ a h. found .none a (omega (arith, long, h)))
 

@@ -49,15 +49,6 @@ fn seek<'a>(program: &'a [u8], output: &'a [u8], table: &[u32], name: &[u8], slo
     Found::Nothing
 }
 
-// The number of the name at a place.
-pub fn find<'a>(program: &'a [u8], output: &'a [u8], table: &[u32], place: Place) -> Found
-    requires { ⌜ Table (now program) (now output) (now table) ⌝ }
-    ensures { λ r. ⌜ Finds (names-of (now (program .entry)) (now (output .entry)) (now (table .entry))) (bytes-at (now (program .entry)) (now (output .entry)) place) r ⌝ }
-{
-    let name = bytes_at(program, output, place);
-    seek(program, output, table, name, table::slot_of(name))
-}
-
 // The number of the name at a place, which is put behind the others where it is new. An empty one has none, and a full table takes no new one.
 pub fn intern<'a>(program: &'a [u8], output: &'a [u8], table: &mut [u32], place: Place) -> Found
     requires { ⌜ Table (now program) (now output) (now table) ⌝ }
