@@ -3,9 +3,8 @@ use mathlib.Core.Path.{_≡_, refl, sym as inv, _∙_}
 use mathlib.Core.Bool.{Bool, true, false}
 use mathlib.Core.Option.{Option, none, some}
 use mathlib.Core.List.{List, [], _∷_}
-use Prim.Native.Nat.{ℕ, zero, suc, _≤_}
+use Prim.Native.Nat.{ℕ, zero, suc}
 use native.Mathlib.Omega.{arith}
-use lib.ListN.{length, length-append}
 use Rattle.reading.specs.Reading.{_at_, Placed, tree, refused}
 use Rattle.reading.specs.Machine.{Step, last, walk}
 use Rattle.reading.proofs.Lists.{none-some, some-inj}

@@ -3,25 +3,25 @@ use mathlib.Core.Path.{_≡_, refl, sym, ap, _∙_}
 use mathlib.Core.Bool.{Bool, true, false, not, _&&_, false≢true, true≢false}
 use mathlib.Core.Logic.{_⊎_, inl, inr, _↔_}
 use mathlib.Core.Option.{Option, none, some}
-use mathlib.Core.List.{List, [], _∷_, map}
+use mathlib.Core.List.{List, [], _∷_}
 use Prim.Native.Nat.{ℕ, zero, suc, _+_, _<_}
 use native.Mathlib.Omega.{arith}
 use native.Mathlib.Decide.{decLt}
-use lib.ListN.{length, getElem?}
+use lib.ListN.{getElem?}
 use Rattle.meaning.specs.Sets.{In, every, any}
 use Rattle.meaning.specs.Domain.{Domain, Laws}
-use Rattle.meaning.specs.Rules.{Term, Fact, Side, plain, computed, Literal, positive, negated, builtin, Rule}
+use Rattle.meaning.specs.Rules.{Fact, plain, computed, Literal, positive, negated, builtin, Rule}
 use Rattle.meaning.specs.Safety.{term-bound, side-bound, literal-bound, head-bound, bound, safe}
-use Rattle.meaning.specs.Instances.{member, true-in, body-true, head-true}
+use Rattle.meaning.specs.Instances.{member, true-in, head-true}
 use Rattle.meaning.specs.AnswerSets.{Broken}
-use Rattle.meaning.specs.Matchings.{_≼_, First, BrokenAt, Values, value?, operate?, OverflowAt}
+use Rattle.meaning.specs.Matchings.{_≼_, First, BrokenAt, value?, operate?, OverflowAt}
 use Rattle.meaning.specs.Matcher.{Choice, choices}
 use Rattle.meaning.specs.Quick.{find, Found, found-at, seek, breaks, broken, unfit, side-overflows, literal-overflows, overflows, overflow}
-use Rattle.meaning.proofs.Booleans.{and-left, and-right, not-true, not-of-false, none-some, some-inj}
-use Rattle.meaning.proofs.Sets.{every-in, any-in, any-of, at-in, in-at}
+use Rattle.meaning.proofs.Booleans.{and-left, and-right, not-true, none-some, some-inj}
+use Rattle.meaning.proofs.Sets.{every-in, any-in, any-of, at-in}
 use Rattle.meaning.proofs.Bodies.{body-true-is, body-agrees, head-agrees}
 use Rattle.meaning.proofs.Positions.{≼-antisym, find-none, find-some, find-first}
-use Rattle.meaning.proofs.Choices.{Known, value-known, matching-chosen, chosen-matching, chosen-placed, choices-sorted, true-chosen-at, true-positions}
+use Rattle.meaning.proofs.Choices.{value-known, matching-chosen, chosen-matching, chosen-placed, choices-sorted, true-chosen-at, true-positions}
 
 -- only one place is the first
 pub first-unique : {U : Type 0} (Is : Rule U → List ℕ → Type 0) (P : List (Rule U)) (m n : ℕ) (ps qs : List ℕ) → First Is P m ps → First Is P n qs → (m ≡ n) × (ps ≡ qs)

@@ -1,6 +1,6 @@
 -- The scan of the equations: what each gain is, and that the scan binds exactly the least set that the rule of safety describes.
-use mathlib.Core.Path.{_≡_, refl, sym, ap, _∙_}
-use mathlib.Core.Bool.{Bool, true, false, not, _&&_, _||_, false≢true}
+use mathlib.Core.Path.{_≡_, refl, sym, _∙_}
+use mathlib.Core.Bool.{Bool, true, false, not, _&&_, false≢true}
 use mathlib.Core.Logic.{_⊎_, inl, inr, _↔_}
 use mathlib.Core.Option.{Option, none, some}
 use mathlib.Core.List.{List, [], _∷_}
@@ -8,8 +8,8 @@ use Prim.Native.Nat.{ℕ, zero, suc, _≤_, _<_}
 use native.Mathlib.Omega.{arith}
 use lib.Dec.{eqb}
 use lib.ListN.{length}
-use Rattle.meaning.specs.Sets.{In, every, any}
-use Rattle.meaning.specs.Domain.{Comparison, equal, unequal, less, at-most, greater, at-least}
+use Rattle.meaning.specs.Sets.{In, every}
+use Rattle.meaning.specs.Domain.{equal, unequal, less, at-most, greater, at-least}
 use Rattle.meaning.specs.Rules.{Term, constant, variable, Atom, Side, plain, computed, Literal, positive, negated, builtin, Rule}
 use Rattle.meaning.specs.Safety.{in-term, in-side, in-atom, positives, in-positives, Bound, by-atom, by-equation, term-bound, side-bound, atom-bound, Equation, when, else, gain-left, gain, next-gain, with, scan, equations, bound-after, bound}
 use Rattle.meaning.proofs.Booleans.{and-left, and-right, and-both, or-cases, or-left, or-right, not-true, not-of-true, not-of-false, eqb-sound, eqb-self, none-some, some-inj, when-some}

@@ -1,21 +1,19 @@
 -- The theorem: a verdict means what it says exactly where the quick check gives it, and so only one verdict does.
 use mathlib.Core.Path.{_≡_, refl, sym, ap, _∙_}
-use mathlib.Core.Bool.{Bool, true, false, false≢true, true≢false}
+use mathlib.Core.Bool.{Bool, true, false, true≢false}
 use mathlib.Core.Logic.{_↔_}
 use mathlib.Core.Option.{Option, none, some}
 use mathlib.Core.List.{List, [], _∷_, map}
-use Prim.Native.Nat.{ℕ, suc, _≤_}
-use lib.ListN.{length}
-use Rattle.meaning.specs.Sets.{In, every, Each, _⊆_}
+use Prim.Native.Nat.{ℕ}
+use Rattle.meaning.specs.Sets.{In, every, Each}
 use Rattle.meaning.specs.Domain.{Domain, Laws}
 use Rattle.meaning.specs.Rules.{Fact, Rule}
 use Rattle.meaning.specs.Safety.{safe}
-use Rattle.meaning.specs.Instances.{member, body-true, head-true}
 use Rattle.meaning.specs.AnswerSets.{Broken, Accepted}
 use Rattle.meaning.specs.Matchings.{First, BrokenAt, OverflowAt}
 use Rattle.meaning.specs.Rounds.{IsRound}
-use Rattle.meaning.specs.Verdicts.{Verdict, accepted, unsatisfied, smaller, MeansAccepted, MeansUnsatisfied, MeansSmaller, Means}
-use Rattle.meaning.specs.Outcomes.{Outcome, out-of-range, verdict, MeansOutOfRange, MeansVerdict, Answers}
+use Rattle.meaning.specs.Verdicts.{Verdict, accepted, unsatisfied, smaller, MeansSmaller, Means}
+use Rattle.meaning.specs.Outcomes.{Outcome, out-of-range, verdict, Answers}
 use Rattle.meaning.specs.Quick.{Found, broken, edges, judge, quick, overflow, settle, outcome}
 use Rattle.meaning.proofs.Booleans.{both-ways}
 use Rattle.meaning.proofs.Sets.{at-in, every-in, every-not, same-map}

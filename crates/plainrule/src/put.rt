@@ -1,7 +1,6 @@
 // Bytes and numbers, written into a lent buffer as far as it reaches. The place is counted on past its end, so that a buffer
 // with no room at all gives the length.
 ghost use mathlib.Core.List.{[], _∷_};
-ghost use mathlib.Core.Path.{_≡_};
 ghost use Rattle.grammar.specs.Writing.{digits};
 ghost use Rattle.plainrule.specs.Put.{Room, Put};
 

@@ -1,16 +1,16 @@
 -- One equation more, on the places.
-use mathlib.Core.Path.{_≡_, refl, sym, ap, _∙_}
-use mathlib.Core.List.{List, [], _∷_, map}
+use mathlib.Core.Path.{_≡_, _∙_}
+use mathlib.Core.List.{List, map}
 use Prim.Native.Nat.{ℕ, _+_, _≤_, _<_}
 use native.Mathlib.Numerals.{add-one}
 use lib.ListN.{length, getD, set, drop, drop-of-length-le}
 use lib.Seq.{drop-cons}
 use Rattle.meaning.specs.Rules.{Bytes}
-use Rattle.meaning.specs.Matchings.{Values, side?}
-use Rattle.meaning.specs.Matcher.{set-to, complete}
+use Rattle.meaning.specs.Matchings.{Values}
+use Rattle.meaning.specs.Matcher.{complete}
 use Rattle.codes.specs.Domains.{codes}
-use Rattle.tables.specs.Rows.{literal-column, side-at, equation-at}
-use Rattle.binding.specs.Bindings.{slot, values-of}
+use Rattle.tables.specs.Rows.{literal-column, equation-at}
+use Rattle.binding.specs.Bindings.{values-of}
 use Rattle.binding.specs.declared.Bindings.{Bindings}
 use Rattle.binding.proofs.Places.{stored}
 use Rattle.sides.specs.Right.{Right}

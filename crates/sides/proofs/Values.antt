@@ -1,24 +1,23 @@
 -- Values of terms and of right sides, by their codes.
-use mathlib.Core.Path.{_≡_, refl, sym, ap, ap₂, _∙_}
+use mathlib.Core.Path.{_≡_, refl, sym, ap, _∙_}
 use mathlib.Core.Bool.{Bool, true, false, _&&_, cond}
-use mathlib.Core.Option.{Option, none, some, Option·getD}
+use mathlib.Core.Option.{none, some}
 use mathlib.Core.List.{List}
 use Prim.Native.Nat.{ℕ, _≤_, _<_}
 use native.Mathlib.Omega.{arith}
 use native.Mathlib.Decide.{decLt}
-use borrow.Author.Tests.{lt-ltb, le-ltb, eqb-true, eqb-false, eq-eqb, ne-eqb}
-use lib.Dec.{eqb, ltb}
+use borrow.Author.Tests.{lt-ltb, le-ltb, eqb-true, eq-eqb, ne-eqb}
+use lib.Dec.{eqb}
 use lib.IntN.{ℤ}
 use lib.ListN.{length, getD}
 use Rattle.meaning.specs.Domain.{Operation}
-use Rattle.meaning.specs.Rules.{Bytes, constant, variable, plain, computed}
+use Rattle.meaning.specs.Rules.{Bytes}
 use Rattle.meaning.specs.Values.{number, in-range, operate-numbers}
 use Rattle.meaning.specs.Instances.{value, side-value}
 use Rattle.meaning.specs.Matchings.{value?, operate?, side?}
 use Rattle.meaning.specs.Matcher.{total}
 use Rattle.codes.specs.Codes.{no-value, beyond, is-number-code, number-code, number-of}
 use Rattle.codes.specs.Arithmetic.{operation-at, kept, applied, result}
-use Rattle.codes.specs.declared.Applied.{Applied}
 use Rattle.codes.specs.declared.Applied.the-variants.{Result, NoResult, OutOfRange}
 use Rattle.codes.specs.Domains.{codes}
 use Rattle.codes.proofs.Numbers.{code-is-number, number-least}

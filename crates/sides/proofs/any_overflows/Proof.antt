@@ -8,7 +8,6 @@ use Rattle.meaning.specs.Rules.{Bytes}
 use native.Mathlib.Omega.{arith}
 use Prim.Native.Nat.{_≤_, _-_}
 use mathlib.Core.List.{List}
-use mathlib.Core.Bool.{true, false}
 use mathlib.Core.Path.{_≡_, refl, sym, _∙_}
 use borrow.Author.Needs.{needs}
 use Rattle.sides.proofs.any_overflows.Statement.{statement}

@@ -1,7 +1,6 @@
 -- `literal_overflows` meets its contract: only a built-in with an operation can leave the range. Assumes nothing.
 use Rattle.binding.specs.Bindings.{values-of}
 use Rattle.sides.proofs.Range.{classical-stays, plain-stays, computed-leaves}
-use native.Mathlib.Omega.{arith}
 use mathlib.Core.Path.{sym}
 use borrow.Author.Needs.{needs}
 use Rattle.sides.proofs.literal_overflows.Statement.{statement}

@@ -3,7 +3,6 @@
 use Rattle.sides.proofs.Equations.{unsolved, solved, solved-one}
 use Rattle.binding.specs.Bindings.{values-of}
 use Rattle.tables.proofs.Strides.{at-member}
-use Rattle.tables.specs.WellFormed.{EquationRow}
 use Rattle.tables.specs.Rows.{equation-at}
 use Rattle.codes.specs.Domains.{codes}
 use Rattle.meaning.specs.Matcher.{complete}

@@ -1,5 +1,5 @@
 -- `rules::put_started` meets its contract. Assumes nothing.
-use mathlib.Core.Path.{_≡_, refl}
+use mathlib.Core.Path.{refl}
 use Rattle.rule.specs.Stands.{rule-of}
 use Rattle.filling.specs.Rules.{Made}
 use borrow.Author.Tests.{not-true, not-false}

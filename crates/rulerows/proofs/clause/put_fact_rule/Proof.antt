@@ -1,5 +1,5 @@
 -- `clause::put_fact_rule` meets its contract. Assumes nothing.
-use mathlib.Core.Path.{_≡_, refl}
+use mathlib.Core.Path.{refl}
 use mathlib.Core.Bool.{true}
 use native.Mathlib.Omega.{arith}
 use Rattle.rule.specs.Plain.{meant-rule}

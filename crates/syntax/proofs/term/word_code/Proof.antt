@@ -1,5 +1,4 @@
 -- `term::word_code` meets its contract. Assumes nothing.
-use mathlib.Core.Path.{refl}
 use borrow.Author.Tests.{lt-ltb, le-ltb}
 use Rattle.syntax.specs.Terms.{wordCode}
 use Rattle.syntax.proofs.term.word_code.Statement.{statement}
