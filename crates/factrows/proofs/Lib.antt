@@ -1,2 +1,1 @@
-pub mod Codable
 pub mod Loop

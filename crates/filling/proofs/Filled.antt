@@ -4,7 +4,6 @@ use mathlib.Core.Bool.{Bool, true, false}
 use mathlib.Core.List.{List, [], _∷_}
 use Prim.Native.Nat.{ℕ, suc, _+_, _-_, _*_, _≤_, _<_}
 use native.Mathlib.Omega.{arith}
-use native.Mathlib.Numerals.{add-one}
 use lib.Dec.{leb, ltb}
 use lib.ListN.{length, take}
 use lib.Seq.{take-length, length-take-le}
@@ -31,7 +30,7 @@ use Rattle.codes.specs.Related.{Pairwise, end, pair, RelatedRule}
 use Rattle.codes.proofs.Pairwise.{pairwise-append}
 use Rattle.tables.specs.Rows.{from, rule-at}
 use Rattle.tables.specs.WellFormed.{RuleRow}
-use Rattle.tables.proofs.Strides.{from-last, from-same}
+use Rattle.tables.proofs.Strides.{from-same, from-on}
 use Rattle.names.specs.Texts.{place-at, bytes-at}
 use Rattle.names.specs.Table.{names-of}
 use Rattle.rows.specs.Growth.{Grows}
@@ -160,11 +159,7 @@ module _ (program output : Bytes) (names₀ rules₀ literals₀ : List ℕ) (f 
             rows k h true e = let l = ltb-true k n e in grown-row _ _ _ _ k (agrees k l) (g .rows k l)
             rows k h false e = let l = ltb-false k n e in let z : k ≡ n = omega arith in rw z (s .row)
 
-            before : from (rule-at (take (n * 40 + 40) rules′) (take ((n * 17 + 17) * 12) literals′)) n 0 ≡ from (rule-at (take (n * 40) rules) (take (n * 17 * 12) literals)) n 0
-            before = from-same _ _ n 0 (λ k p h. same-rule _ _ _ _ k (agrees k (omega arith)) (g .rows k (omega arith)))
-
             stands : Pairwise (RelatedRule (CodedName (names-of program output names′)) (Coded (names-of program output names′))) (from (rule-at (take (n * 40 + 40) rules′) (take ((n * 17 + 17) * 12) literals′)) (n + 1) 0) (rules-for (g .walked .rules) ▹ rule-for (next .rule-tree))
             stands =
-                let m : 0 + n ≡ n = omega arith in
-                rw (add-one n, from-last (rule-at (take (n * 40 + 40) rules′) (take ((n * 17 + 17) * 12) literals′)) n 0, before, m)
+                rw (from-on (rule-at (take (n * 40 + 40) rules′) (take ((n * 17 + 17) * 12) literals′)) (rule-at (take (n * 40) rules) (take (n * 17 * 12) literals)) n (λ k h. same-rule _ _ _ _ k (agrees k h) (g .rows k h)))
                 (pairwise-append (keeps-rules program output (s .grows) (g .stands)) (pair (rw is-rule at (s .stands)) end))

@@ -19,8 +19,9 @@ use Rattle.rows.specs.declared.atom.AtomCodes.{AtomCodes}
 use Rattle.rows.specs.Coding.{CodedTerm, CodedAtom, Codes}
 use Rattle.rulerows.specs.Stored.{with-row}
 use Rattle.rulerows.specs.Facts.{as-atom, StorableFact, StoresFact}
-use Rattle.rulerows.proofs.Stored.{put-kept-of, put-part-of, part-of-part, number-of-part}
+use Rattle.rulerows.proofs.Stored.{put-kept-of, put-part-of}
 use Rattle.rulerows.proofs.Shapes.{same-kind, is-variable}
+use Rattle.rulerows.proofs.RowParts.{predicate-part, arguments-part}
 
 -- ---- numbers that stand for values
 
@@ -53,15 +54,11 @@ module _ (program output : Bytes) (names facts : List ℕ) (number : ℕ) (a : A
   here = ap (λ (t : List ℕ). take 9 (drop (number * 9) t)) two ∙ put-part-of facts (number * 9) row fits 9 nine ∙ is-row
 
   predicate-is : fact-predicate facts′ number ≡ codes .predicate
-  predicate-is =
-      let z : number * 9 + 0 ≡ number * 9 = omega arith in
-      ap (λ (i : ℕ). getD facts′ i 0) (sym z) ∙ sym (number-of-part 9 (number * 9) 0 facts′ (omega arith)) ∙ ap (λ (t : List ℕ). getD t 0 0) here
+  predicate-is = predicate-part facts′ number ∙ ap (λ (t : List ℕ). getD t 0 0) here
 
   arguments-are : fact-arguments facts′ number ≡ take (arity (codes .predicate)) (codes .terms)
   arguments-are =
-      rw predicate-is
-      (sym (part-of-part 9 (number * 9) 1 (arity (codes .predicate)) facts′ (omega arith))
-      ∙ ap (λ (t : List ℕ). take (arity (codes .predicate)) (drop 1 t)) here)
+      rw predicate-is (arguments-part facts′ number (codes .predicate) ∙ ap (λ (t : List ℕ). take (arity (codes .predicate)) (drop 1 t)) here)
 
   fact-is : fact-at facts′ number ≡ atom-with (codes .predicate) (take (arity (codes .predicate)) (codes .terms))
   unfolding fact-at

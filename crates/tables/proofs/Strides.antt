@@ -5,6 +5,7 @@ use mathlib.Core.Option.{some}
 use mathlib.Core.List.{List, [], _∷_, _++_, map}
 use Prim.Native.Nat.{ℕ, zero, suc, _+_, _-_, _≤_, _<_}
 use native.Mathlib.Omega.{arith}
+use native.Mathlib.Numerals.{add-one}
 use lib.ListN.{length, getD, getElem?, take, drop, length-drop}
 use lib.Seq.{length-take-le}
 use Rattle.meaning.specs.Sets.{In}
@@ -43,6 +44,14 @@ pub from-same : {A : Type 0} (f g : ℕ → A) (n k : ℕ) → ((l : ℕ) → k 
 unfolding from
 from-same f g zero k h = refl
 from-same f g (suc n) k h = ap₂ (λ x xs. x ∷ xs) (h k (omega arith) (omega arith)) (from-same f g n (suc k) (λ l p q. h l (omega arith) (omega arith)))
+
+-- one more, where those before it are the same
+pub from-on : {A : Type 0} (f g : ℕ → A) (n : ℕ) → ((k : ℕ) → k < n → f k ≡ g k) → from f (n + 1) 0 ≡ from g n 0 ++ (f n ∷ [])
+from-on {A} f g n h =
+    let z : 0 + n ≡ n = omega arith in
+    ap (λ (m : ℕ). from f m 0) (add-one n)
+    ∙ from-last f n 0
+    ∙ ap₂ (λ (xs : List A) (k : ℕ). xs ++ (f k ∷ [])) (from-same f g n 0 (λ k p q. h k (omega arith))) z
 
 pub from-map : {A B : Type 0} (g : A → B) (f : ℕ → A) (n k : ℕ) → map g (from f n k) ≡ from (λ l. g (f l)) n k
 unfolding from

@@ -9,7 +9,7 @@ use Rattle.reading.specs.Reading.{tree}
 use Rattle.grammar.specs.Trees.{Program}
 use Rattle.syntax.specs.Programs.{ReadAs}
 use Rattle.syntax.proofs.Rules.{ground-whole}
-use Rattle.factrows.proofs.Loop.{line-read, Going, starts, filled, goes-on, storable, stored-on}
+use Rattle.factrows.proofs.Loop.{line-read, Going, starts, filled, facts-room, storable, stored-on}
 use borrow.Author.Needs.{needs}
 use Rattle.factrows.proofs.fill_facts.Statement.{statement}
 use Rattle.factrows.proofs.fill_facts.Tie as tie
@@ -47,19 +47,19 @@ returns c = λ p r. filled _ _ _ p _ _ _ (c .before .before .loop .inv .1 p (lin
 put-fact-requires : tie.Need-put-fact-requires Inv-loop μ-loop
 put-fact-requires c κs =
     let w = line-read _ _ (c .before .before .before .before .before .before .before .before .before .before .before .before .before .before .args .line) _ (c .before .before .before .before .before .before .before .bytes-at .ensures) _ (c .before .before .before .before .before .before .before .before .before .before .before .before .before .before .pre .read) in
-    storable _ _ _ (c .before .before .before .before .before .before .before .before .before .before .before .before .before .before .pre .tree-of) _ _ _ (c .before .before .before .before .before .before .loop .inv .1 (c .before .before .before .before .before .before .before .before .before .before .before .before .before .before .pre .tree-of) w) _ (ground-whole _ _ _ _ (c .before .before .before .before .before .start-at .ensures)) _ (c .before .before .before .before .before .before .before .bytes-at .ensures) (c .before .before .before .before .before .before .before .before .before .before .before .before .before .before .pre .room) (c .before .before .before .before .before .before .before .before .before .before .before .before .before .before .pre .facts-long) w (c .before .before .before .before .if1 .left)
+    storable _ _ _ (c .before .before .before .before .before .before .before .before .before .before .before .before .before .before .pre .tree-of) _ _ _ (c .before .before .before .before .before .before .loop .inv .1 (c .before .before .before .before .before .before .before .before .before .before .before .before .before .before .pre .tree-of) w) _ (ground-whole _ _ _ _ (c .before .before .before .before .before .start-at .ensures)) (c .before .before .before .before .if1 .left) _ (c .before .before .before .before .before .before .before .bytes-at .ensures) (c .before .before .before .before .before .before .before .before .before .before .before .before .before .before .pre .room) (c .before .before .before .before .before .before .before .before .before .before .before .before .before .before .pre .facts-long) w
 
 mul-predicates : tie.Need-mul-predicates Inv-loop μ-loop
 mul-predicates c =
     let w = line-read _ _ (c .before .before .before .before .before .before .before .before .before .before .before .before .before .before .before .before .before .before .before .args .line) _ (c .before .before .before .before .before .before .before .before .before .before .before .before .bytes-at .ensures) _ (c .before .before .before .before .before .before .before .before .before .before .before .before .before .before .before .before .before .before .before .pre .read) in
-    let m = goes-on _ _ _ (c .before .before .before .before .before .before .before .before .before .before .before .before .before .before .before .before .before .before .before .pre .tree-of) _ _ _ (c .before .before .before .before .before .before .before .before .before .before .before .loop .inv .1 (c .before .before .before .before .before .before .before .before .before .before .before .before .before .before .before .before .before .before .before .pre .tree-of) w) _ (ground-whole _ _ _ _ (c .before .before .before .before .before .before .before .before .before .before .start-at .ensures)) (c .before .before .before .before .before .before .before .before .before .if1 .left) .more in
+    let m = facts-room _ _ _ (c .before .before .before .before .before .before .before .before .before .before .before .before .before .before .before .before .before .before .before .pre .tree-of) _ _ _ (c .before .before .before .before .before .before .before .before .before .before .before .loop .inv .1 (c .before .before .before .before .before .before .before .before .before .before .before .before .before .before .before .before .before .before .before .pre .tree-of) w) _ (ground-whole _ _ _ _ (c .before .before .before .before .before .before .before .before .before .before .start-at .ensures)) (c .before .before .before .before .before .before .before .before .before .if1 .left) in
     omega arith
 
 slice-write-predicates : tie.Need-slice-write-predicates Inv-loop μ-loop
 slice-write-predicates c =
     let w = line-read _ _ (c .before .before .before .before .before .before .before .before .before .before .before .before .before .before .before .before .before .before .before .args .line) _ (c .before .before .before .before .before .before .before .before .before .before .before .before .bytes-at .ensures) _ (c .before .before .before .before .before .before .before .before .before .before .before .before .before .before .before .before .before .before .before .pre .read) in
     let g = c .before .before .before .before .before .before .before .before .before .before .before .loop .inv .1 (c .before .before .before .before .before .before .before .before .before .before .before .before .before .before .before .before .before .before .before .pre .tree-of) w in
-    let m = goes-on _ _ _ (c .before .before .before .before .before .before .before .before .before .before .before .before .before .before .before .before .before .before .before .pre .tree-of) _ _ _ g _ (ground-whole _ _ _ _ (c .before .before .before .before .before .before .before .before .before .before .start-at .ensures)) (c .before .before .before .before .before .before .before .before .before .if1 .left) .more in
+    let m = facts-room _ _ _ (c .before .before .before .before .before .before .before .before .before .before .before .before .before .before .before .before .before .before .before .pre .tree-of) _ _ _ g _ (ground-whole _ _ _ _ (c .before .before .before .before .before .before .before .before .before .before .start-at .ensures)) (c .before .before .before .before .before .before .before .before .before .if1 .left) in
     let l = g .predicates-kept .long in
     let k = c .before .before .before .before .before .before .before .before .before .before .before .before .before .before .before .before .before .before .before .pre .predicates-long in
     omega arith
@@ -67,13 +67,13 @@ slice-write-predicates c =
 add-count : tie.Need-add-count Inv-loop μ-loop
 add-count c =
     let w = line-read _ _ (c .before .before .before .before .before .before .before .before .before .before .before .before .before .before .before .before .before .before .before .args .line) _ (c .before .before .before .before .before .before .before .before .before .before .before .before .bytes-at .ensures) _ (c .before .before .before .before .before .before .before .before .before .before .before .before .before .before .before .before .before .before .before .pre .read) in
-    let m = goes-on _ _ _ (c .before .before .before .before .before .before .before .before .before .before .before .before .before .before .before .before .before .before .before .pre .tree-of) _ _ _ (c .before .before .before .before .before .before .before .before .before .before .before .loop .inv .1 (c .before .before .before .before .before .before .before .before .before .before .before .before .before .before .before .before .before .before .before .pre .tree-of) w) _ (ground-whole _ _ _ _ (c .before .before .before .before .before .before .before .before .before .before .start-at .ensures)) (c .before .before .before .before .before .before .before .before .before .if1 .left) .more in
+    let m = facts-room _ _ _ (c .before .before .before .before .before .before .before .before .before .before .before .before .before .before .before .before .before .before .before .pre .tree-of) _ _ _ (c .before .before .before .before .before .before .before .before .before .before .before .loop .inv .1 (c .before .before .before .before .before .before .before .before .before .before .before .before .before .before .before .before .before .before .before .pre .tree-of) w) _ (ground-whole _ _ _ _ (c .before .before .before .before .before .before .before .before .before .before .start-at .ensures)) (c .before .before .before .before .before .before .before .before .before .if1 .left) in
     omega arith
 
 loop-less : tie.Need-loop-less Inv-loop μ-loop
 loop-less c =
     let w = line-read _ _ (c .before .before .before .before .before .before .before .before .before .before .before .before .before .before .before .before .before .before .before .args .line) _ (c .before .before .before .before .before .before .before .before .before .before .before .before .bytes-at .ensures) _ (c .before .before .before .before .before .before .before .before .before .before .before .before .before .before .before .before .before .before .before .pre .read) in
-    let m = goes-on _ _ _ (c .before .before .before .before .before .before .before .before .before .before .before .before .before .before .before .before .before .before .before .pre .tree-of) _ _ _ (c .before .before .before .before .before .before .before .before .before .before .before .loop .inv .1 (c .before .before .before .before .before .before .before .before .before .before .before .before .before .before .before .before .before .before .before .pre .tree-of) w) _ (ground-whole _ _ _ _ (c .before .before .before .before .before .before .before .before .before .before .start-at .ensures)) (c .before .before .before .before .before .before .before .before .before .if1 .left) .more in
+    let m = facts-room _ _ _ (c .before .before .before .before .before .before .before .before .before .before .before .before .before .before .before .before .before .before .before .pre .tree-of) _ _ _ (c .before .before .before .before .before .before .before .before .before .before .before .loop .inv .1 (c .before .before .before .before .before .before .before .before .before .before .before .before .before .before .before .before .before .before .before .pre .tree-of) w) _ (ground-whole _ _ _ _ (c .before .before .before .before .before .before .before .before .before .before .start-at .ensures)) (c .before .before .before .before .before .before .before .before .before .if1 .left) in
     omega arith
 
 loop-again : tie.Need-loop-again Inv-loop μ-loop
