@@ -1,4 +1,4 @@
--- Laws about the variables that are met: they depend on the tokens alone, and a facts line has none.
+-- Laws about the variables that are met: they depend on the tokens alone.
 use mathlib.Core.Path.{_≡_, refl, sym as inv, ap, _∙_}
 use mathlib.Core.Bool.{Bool, true, false, cond}
 use mathlib.Core.Option.{none, some}
@@ -10,9 +10,8 @@ use Rattle.reading.specs.Reading.{tokens, seen}
 use Rattle.reading.proofs.Lists.{tokens-append}
 use Rattle.meaning.specs.Rules.{Bytes}
 use Rattle.meaning.specs.Values.{same-bytes}
-use Rattle.grammar.specs.Tokens.{closing, comma}
-use Rattle.grammar.specs.Trees.{Sequence, empty, _then_, count, Term, name, variable, number, negative, anonymous, Arguments, bare, parentheses, arguments, Atom, atom, Literal, positive, negated, compared, computed}
-use Rattle.grammar.specs.Spelling.{Mark, Spelling, mere, with-commas, spell-term, spell-argument, spell-arguments, spell-signed, spell-atom, spell-compared, spell-literal}
+use Rattle.grammar.specs.Trees.{Term, name, variable, number, negative, anonymous, Atom, atom, Literal, positive, negated, compared, computed}
+use Rattle.grammar.specs.Spelling.{Mark, Spelling, spell-term, spell-signed, spell-atom, spell-compared, spell-literal}
 use Rattle.grammar.specs.Variables.{Variables, number-of, meet-symbol, meet, met}
 use Rattle.grammar.specs.Sizes.{language}
 
@@ -66,35 +65,12 @@ module _ {ground : Bool} (m m′ : Mark) where
   pub met-literal : (vs : Variables) (l : Literal ground) → met vs (spell-literal m l) ≡ met vs (spell-literal m′ l)
   met-literal vs l = met-tokens vs _ _ (literal-tokens l)
 
--- ---- no variable is met in a sign and a name, nor in a ground atom
+-- ---- no variable is met in a sign and a name
 
 pub met-signed : (vs : Variables) (m : Mark) (s : Bool) (b : Bytes) → met vs (spell-signed m s b) ≡ vs
 unfolding met meet meet-symbol spell-signed
 met-signed vs m true b = refl
 met-signed vs m false b = refl
-
-pub met-ground-term : (vs : Variables) (m : Mark) (t : Term true) → met vs (spell-term m t) ≡ vs
-unfolding met meet meet-symbol spell-term
-met-ground-term vs m (name b) = refl
-met-ground-term vs m (variable u b) = absurd u
-met-ground-term vs m (number n) = refl
-met-ground-term vs m (negative n) = refl
-met-ground-term vs m (anonymous u) = absurd u
-
-met-ground-terms : (vs : Variables) (ts : Sequence (Term true)) → met vs (with-commas spell-argument ts) ≡ vs
-unfolding met meet meet-symbol with-commas
-met-ground-terms vs empty = refl
-met-ground-terms vs (ts then t) = rw (met-append vs (with-commas spell-argument ts ++ spell-argument (suc (count ts)) t) (mere comma ∷ []), met-append vs (with-commas spell-argument ts), met-ground-terms vs ts, met-ground-term vs)
-
-met-ground-arguments : (vs : Variables) (xs : Arguments true) → met vs (spell-arguments xs) ≡ vs
-unfolding met meet meet-symbol spell-arguments
-met-ground-arguments vs bare = refl
-met-ground-arguments vs parentheses = refl
-met-ground-arguments vs (arguments ts t) = rw (met-append vs (with-commas spell-argument ts ++ spell-argument (suc (count ts)) t) (mere closing ∷ []), met-append vs (with-commas spell-argument ts), met-ground-terms vs ts, met-ground-term vs)
-
-pub met-ground-atom : (vs : Variables) (m : Mark) (x : Atom true) → met vs (spell-atom m x) ≡ vs
-unfolding spell-atom
-met-ground-atom vs m (atom s b xs) = rw (met-append vs (spell-signed m s b), met-signed vs m s b, met-ground-arguments vs xs)
 
 -- ---- numbers
 
