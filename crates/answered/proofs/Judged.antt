@@ -14,7 +14,7 @@ use Rattle.meaning.proofs.Settled.{means-unique}
 use Rattle.meaning.proofs.Values.{value-laws}
 use Rattle.meaning.proofs.Sets.{at-in}
 use Rattle.stages.specs.Parts.{Part}
-use Rattle.stages.specs.Stage.{Outcome, on, stops, goes, First, first, without}
+use Rattle.stages.specs.Stage.{on, stops, goes, first, without}
 use Rattle.stages.proofs.Unique.{One, then-one, first-one}
 use Rattle.answered.specs.Answer.{says}
 use Rattle.answered.specs.Cases.{Leaves, leaves}

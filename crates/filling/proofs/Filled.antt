@@ -2,18 +2,17 @@
 use mathlib.Core.Path.{_≡_, refl, sym, ap, _∙_}
 use mathlib.Core.Bool.{Bool, true, false}
 use mathlib.Core.List.{List, [], _∷_}
-use Prim.Native.Nat.{ℕ, suc, _+_, _-_, _*_, _≤_, _<_}
+use Prim.Native.Nat.{ℕ, suc, _+_, _*_, _≤_, _<_}
 use native.Mathlib.Omega.{arith}
 use lib.Dec.{leb, ltb}
 use lib.ListN.{length, take}
 use lib.Seq.{take-length, length-take-le}
 use borrow.Author.Tests.{ltb-true, ltb-false, lt-ltb}
-use Rattle.lexis.specs.Tokens.{part}
 use Rattle.reading.specs.Reading.{_▹_, tree}
 use Rattle.meaning.specs.Sets.{every}
-use Rattle.meaning.specs.Rules.{Bytes, Rule}
+use Rattle.meaning.specs.Rules.{Bytes}
 use Rattle.meaning.specs.Safety.{safe}
-use Rattle.grammar.specs.Trees.{_then_, count, Program}
+use Rattle.grammar.specs.Trees.{count, Program}
 use Rattle.grammar.specs.Abstraction.{rule-for, rules-for}
 use Rattle.rule.specs.declared.Rule as value-rule
 use Rattle.rule.specs.Plain.{meant-rule}

@@ -8,7 +8,7 @@ use Prim.Native.Nat.{ℕ, zero, suc, _≤_, _<_}
 use native.Mathlib.Omega.{arith}
 use lib.Dec.{eqb}
 use lib.ListN.{length}
-use Rattle.meaning.specs.Sets.{In, every}
+use Rattle.meaning.specs.Sets.{In}
 use Rattle.meaning.specs.Domain.{equal, unequal, less, at-most, greater, at-least}
 use Rattle.meaning.specs.Rules.{Term, constant, variable, Atom, Side, plain, computed, Literal, positive, negated, builtin, Rule}
 use Rattle.meaning.specs.Safety.{in-term, in-side, in-atom, positives, in-positives, Bound, by-atom, by-equation, term-bound, side-bound, atom-bound, Equation, when, else, gain-left, gain, next-gain, with, scan, equations, bound-after, bound}

@@ -18,7 +18,6 @@ use Rattle.meaning.specs.Safety.{bound}
 use Rattle.grammar.specs.Trees.{empty, _then_, count, Rule as Tree, Program}
 use Rattle.grammar.specs.Sizes.{too-many, programs}
 use Rattle.grammar.specs.Abstraction.{rule-for, rules-for}
-use Rattle.rule.specs.declared.Rule as value
 use Rattle.rule.specs.Plain.{meant-rule}
 use Rattle.rule.specs.Build.{noPlace}
 use Rattle.syntax.specs.declared.body.RuleRead.{RuleRead}

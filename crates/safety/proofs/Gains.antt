@@ -12,7 +12,7 @@ use borrow.Author.Tests.{ltb-true}
 use Rattle.meaning.specs.Sets.{every}
 use Rattle.meaning.specs.Values.{Value}
 use Rattle.meaning.specs.Domain.{unequal, less, at-most, greater, at-least}
-use Rattle.meaning.specs.Rules.{Bytes, Term, Side, Literal, builtin, Rule}
+use Rattle.meaning.specs.Rules.{Bytes, Term, Side, Literal, builtin}
 use Rattle.meaning.specs.Safety.{term-bound, side-bound, literal-bound, Equation, when, else, gain-left, gain, next-gain}
 use Rattle.meaning.proofs.Booleans.{and-left, none-some, some-inj}
 use Rattle.meaning.proofs.Sets.{at-in, every-in, element-at, element-past}

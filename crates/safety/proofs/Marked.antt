@@ -10,7 +10,7 @@ use borrow.Author.Tests.{ltb-true, ltb-false, eqb-true, eqb-false}
 use native.Mathlib.Omega.{arith}
 use Rattle.meaning.specs.Sets.{every, any}
 use Rattle.meaning.specs.Values.{Value}
-use Rattle.meaning.specs.Rules.{Bytes, Term, Literal, positive, negated, builtin}
+use Rattle.meaning.specs.Rules.{Bytes, Literal, positive, negated, builtin}
 use Rattle.meaning.specs.Safety.{in-term, in-atom, positives, in-positives, term-bound, atom-bound, literal-bound}
 use Rattle.meaning.proofs.Booleans.{and-left, and-right}
 use Rattle.rule.specs.declared.Term as value-term

@@ -9,7 +9,7 @@ use borrow.Author.Tests.{eqb-true, eqb-false, lt-ltb, le-ltb}
 use native.Mathlib.Omega.{arith}
 use Rattle.meaning.specs.Sets.{every}
 use Rattle.meaning.specs.Values.{Value, name, number}
-use Rattle.meaning.specs.Rules.{Bytes, Term, constant, variable, Atom, Side, plain, computed, Literal, positive, negated, builtin, Rule}
+use Rattle.meaning.specs.Rules.{Bytes, Term, constant, variable, Atom, Side, plain, computed, Literal, positive, negated, builtin}
 use Rattle.meaning.specs.Safety.{term-bound, side-bound, atom-bound, literal-bound}
 use Rattle.lexis.specs.Tokens.{part}
 use Rattle.rule.specs.Plain.{meant-term, meant-atom, meant-literal, meant-rule}

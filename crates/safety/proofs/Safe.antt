@@ -15,7 +15,6 @@ use Rattle.meaning.proofs.Booleans.{and-left, and-right, and-both}
 use Rattle.meaning.proofs.Sets.{every-more}
 use Rattle.meaning.proofs.Herbrand.{bound-where-safe}
 use Rattle.lexis.specs.declared.Place.{Place}
-use Rattle.rule.specs.declared.Rule as value-rule
 use Rattle.safety.specs.declared.Unbound.{Unbound}
 use Rattle.safety.specs.Unbound.{FirstUnbound, found, all-bound}
 use Rattle.safety.proofs.FirstUnbound.{AllBelow}

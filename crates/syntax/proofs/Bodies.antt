@@ -10,7 +10,6 @@ use lib.Dec.{leb}
 use lib.ListN.{length, length-set}
 use borrow.Author.Tests.{ne-eqb, leb-false}
 use Rattle.lexis.specs.Tokens.{part}
-use Rattle.reading.specs.Reading.{refused}
 use Rattle.reading.specs.Machine.{walk}
 use Rattle.meaning.specs.Rules.{Bytes}
 use Rattle.grammar.specs.Trees.{Sequence, empty, _then_, count, Atom as AtomTree, Literal as LiteralTree, Program}

@@ -14,7 +14,6 @@ use Rattle.lexis.specs.Kind.{kindNumber}
 use Rattle.lexis.specs.Tokens.{part}
 use Rattle.lexis.specs.Token.{nextToken}
 use Rattle.lexis.proofs.KindNumber.{kind-at-number}
-use Rattle.reading.specs.Reading.{refused}
 use Rattle.meaning.specs.Domain.{Operation, plus, minus, times}
 use Rattle.meaning.specs.Rules.{Bytes}
 use Rattle.grammar.specs.Tokens.{sign, Token, comparison}
@@ -23,7 +22,7 @@ use Rattle.grammar.specs.Spelling.{inside, spell-term, spell-operation, spell-c
 use Rattle.grammar.specs.Variables.{Variables as Names, meet-symbol, meet, met}
 use Rattle.grammar.specs.Sizes.{too-big, too-long, too-many, is-underscore, too-many-variables}
 use Rattle.grammar.specs.States.{BodyContext, left-in, right-in, operand-in, term-wanted, term-read, term-mark}
-use Rattle.grammar.specs.Moves.{on, symbol-number, token-number, when, fire, either, try}
+use Rattle.grammar.specs.Moves.{symbol-number, token-number, when, fire, either, try}
 use Rattle.grammar.specs.Machine.{after-literal, after-term, moves, finished}
 use Rattle.grammar.specs.Abstraction.{comparison-for}
 use Rattle.grammar.proofs.Numbers.{sign-of, fire-number, try-number, try-by-number, comparison-by-number}

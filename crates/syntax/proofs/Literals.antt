@@ -29,7 +29,7 @@ use Rattle.syntax.specs.declared.builtin.LiteralRead.{LiteralRead}
 use Rattle.syntax.specs.Text.{token-of, tokenRead}
 use Rattle.syntax.specs.Ahead.{Wants, wants, from}
 use Rattle.syntax.specs.Written.{plain-term, plain-literal}
-use Rattle.syntax.specs.Reads.{read, stopped}
+use Rattle.syntax.specs.Reads.{stopped}
 use Rattle.syntax.specs.Terms.{ReadsTerm, ReadsNegative, wordCode, termOf}
 use Rattle.syntax.specs.Atoms.{AtomPlace, atom-context, ReadsNamed, ReadsMinus, ReadsAtom}
 use Rattle.syntax.specs.Builtins.{with-tail, ReadsSide, ReadsCompared, stoppedLiteral}

@@ -1,7 +1,7 @@
 -- All rules of a text; and a text that is a tree, read again rule by rule.
 use mathlib.Core.Path.{_≡_, sym as inv, _∙_}
 use mathlib.Core.Bool.{Bool, true, false, true≢false, false≢true}
-use Prim.Native.Nat.{ℕ, suc, _-_, _≤_, _<_}
+use Prim.Native.Nat.{ℕ, suc, _≤_, _<_}
 use native.Mathlib.Omega.{arith}
 use lib.ListN.{length}
 use borrow.Author.Tests.{le-ltb}
@@ -10,7 +10,6 @@ use Rattle.reading.specs.Reading.{Answer, tree, refused}
 use Rattle.reading.specs.Machine.{answer}
 use Rattle.meaning.specs.Rules.{Bytes}
 use Rattle.grammar.specs.Trees.{empty, _then_, count, Rule as Tree, Program}
-use Rattle.grammar.specs.Spelling.{rule}
 use Rattle.grammar.specs.Sizes.{most-rules, too-many}
 use Rattle.grammar.proofs.Theorems.{answer-is-reading, reading-is-answer}
 use Rattle.syntax.specs.declared.body.RuleRead.{RuleRead}

@@ -8,13 +8,12 @@ use Prim.Native.Nat.{ℕ, suc, _-_, _≤_, _<_}
 use native.Mathlib.Omega.{arith}
 use borrow.Author.Tests.{ne-eqb}
 use Rattle.lexis.specs.Tokens.{part}
-use Rattle.reading.specs.Reading.{refused}
 use Rattle.reading.specs.Machine.{walk}
 use Rattle.meaning.specs.Rules.{Bytes}
 use Rattle.grammar.specs.Tokens.{:-, Token}
 use Rattle.grammar.specs.Trees.{empty, _then_, count, bare, Atom as AtomTree, Rule as Tree, fact, clause, Program}
 use Rattle.grammar.specs.Spelling.{inside, rule}
-use Rattle.grammar.specs.Variables.{meet-symbol, meet, met}
+use Rattle.grammar.specs.Variables.{meet-symbol, meet}
 use Rattle.grammar.specs.Sizes.{too-big, too-long, too-many, is-underscore, too-many-variables, language}
 use Rattle.grammar.specs.States.{head-behind, literal-in, atom-wanted, closed, atom-mark}
 use Rattle.grammar.specs.Moves.{on, free-moves, symbol-number, token-number, when, fire, either, try}

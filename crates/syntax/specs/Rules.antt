@@ -9,7 +9,7 @@ use Rattle.lexis.specs.declared.Place.{Place}
 use Rattle.reading.specs.Reading.{Answer, tree, refused}
 use Rattle.reading.specs.Machine.{walk}
 use Rattle.meaning.specs.Rules.{Bytes}
-use Rattle.grammar.specs.Trees.{Sequence, _then_, count, Atom as AtomTree, Literal as LiteralTree, Rule as Tree, fact, clause, Program}
+use Rattle.grammar.specs.Trees.{Sequence, _then_, count, Atom as AtomTree, Literal as LiteralTree, Rule as Tree, clause, Program}
 use Rattle.grammar.specs.Spelling.{inside, rule, with-commas, spell-nth-literal, spell-atom}
 use Rattle.grammar.specs.Variables.{met}
 use Rattle.grammar.specs.Sizes.{too-many, language}

@@ -6,11 +6,6 @@ use borrow.Author.Tests.{not-true, not-false}
 use borrow.Author.Needs.{needs}
 use Rattle.filling.proofs.rules.put_started.Statement.{statement}
 use Rattle.filling.proofs.rules.put_started.Tie as tie
-use Rattle.filling.proofs.rules.put_started.Reads as reads
-use Rattle.filling.proofs.rules.put_started.Lts as lts
-use Rattle.rulerows.proofs.clause.put_fact_rule.Reads as put-fact-rule-reads
-use Rattle.rulerows.proofs.clause.put_rule.Reads as put-rule-reads
-use Rattle.syntax.proofs.body.body_at.Reads as body-at-reads
 
 -- src/rules.rt:49:9
 put-fact-rule-requires : tie.Need-put-fact-rule-requires

@@ -7,9 +7,6 @@ use Rattle.output.proofs.Lines.{Gone, gone-start, gone-stops, gone-end,
 use borrow.Author.Needs.{needs}
 use Rattle.output.proofs.facts.read_line.Statement.{statement}
 use Rattle.output.proofs.facts.read_line.Tie as tie
-use Rattle.output.proofs.facts.read_line.Reads as reads
-use Rattle.output.proofs.facts.read_line.Lts as lts
-use Rattle.syntax.proofs.start.start_at.Reads as start-at-reads
 
 abbrev Inv-loop : tie.InvT-loop
 Inv-loop text at₀ count₀ at count = Gone text at count

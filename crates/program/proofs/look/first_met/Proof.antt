@@ -6,8 +6,6 @@ use Rattle.program.proofs.Looked.{met-none, met-first}
 use borrow.Author.Needs.{needs}
 use Rattle.program.proofs.look.first_met.Statement.{statement}
 use Rattle.program.proofs.look.first_met.Tie as tie
-use Rattle.program.proofs.look.first_met.Reads as reads
-use Rattle.program.proofs.look.first_met.Lts as lts
 
 -- src/look.rt:26:9
 returns : tie.Need-returns

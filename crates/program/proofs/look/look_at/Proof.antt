@@ -5,12 +5,6 @@ use borrow.Author.Tests.{not-true, not-false}
 use borrow.Author.Needs.{needs}
 use Rattle.program.proofs.look.look_at.Statement.{statement}
 use Rattle.program.proofs.look.look_at.Tie as tie
-use Rattle.program.proofs.look.look_at.Reads as reads
-use Rattle.program.proofs.look.look_at.Lts as lts
-use Rattle.program.proofs.look.first_met.Reads as first-met-reads
-use Rattle.safety.proofs.first_unbound.Reads as first-unbound-reads
-use Rattle.syntax.proofs.body.body_at.Reads as body-at-reads
-use Rattle.syntax.proofs.start.start_at.Reads as start-at-reads
 
 -- src/look.rt:41:9
 start-at-requires : tie.Need-start-at-requires

@@ -1,9 +1,6 @@
 use borrow.Author.Needs.{needs}
 use Rattle.rule.proofs.Arguments.empty.Statement.{statement}
 use Rattle.rule.proofs.Arguments.empty.Tie as tie
-use Rattle.rule.proofs.Arguments.empty.Reads as reads
-use Rattle.rule.proofs.Arguments.empty.Lts as lts
-use Rattle.rule.proofs.Term.empty.Reads as empty-reads
 
 -- src/lib.rt:74:13
 empty-requires : tie.Need-empty-requires

@@ -1,9 +1,6 @@
 use borrow.Author.Needs.{needs}
 use Rattle.rule.proofs.Atom.empty.Statement.{statement}
 use Rattle.rule.proofs.Atom.empty.Tie as tie
-use Rattle.rule.proofs.Atom.empty.Reads as reads
-use Rattle.rule.proofs.Atom.empty.Lts as lts
-use Rattle.rule.proofs.Arguments.empty.Reads as empty-reads
 
 -- src/lib.rt:97:13
 empty-requires : tie.Need-empty-requires

@@ -1,10 +1,6 @@
 use borrow.Author.Needs.{needs}
 use Rattle.rule.proofs.Literal.empty.Statement.{statement}
 use Rattle.rule.proofs.Literal.empty.Tie as tie
-use Rattle.rule.proofs.Literal.empty.Reads as reads
-use Rattle.rule.proofs.Literal.empty.Lts as lts
-use Rattle.rule.proofs.Atom.empty.Reads as Atom-empty-reads
-use Rattle.rule.proofs.Term.empty.Reads as Term-empty-reads
 
 -- src/lib.rt:110:13
 empty-requires : tie.Need-empty-requires

@@ -1,11 +1,6 @@
 use borrow.Author.Needs.{needs}
 use Rattle.rule.proofs.Rule.empty.Statement.{statement}
 use Rattle.rule.proofs.Rule.empty.Tie as tie
-use Rattle.rule.proofs.Rule.empty.Reads as reads
-use Rattle.rule.proofs.Rule.empty.Lts as lts
-use Rattle.rule.proofs.Atom.empty.Reads as Atom-empty-reads
-use Rattle.rule.proofs.Literal.empty.Reads as Literal-empty-reads
-use Rattle.rule.proofs.Variables.empty.Reads as Variables-empty-reads
 
 -- src/lib.rt:151:13
 empty-requires : tie.Need-empty-requires

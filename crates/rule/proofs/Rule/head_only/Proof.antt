@@ -2,9 +2,6 @@
 use borrow.Author.Needs.{needs}
 use Rattle.rule.proofs.Rule.head_only.Statement.{statement}
 use Rattle.rule.proofs.Rule.head_only.Tie as tie
-use Rattle.rule.proofs.Rule.head_only.Reads as reads
-use Rattle.rule.proofs.Rule.head_only.Lts as lts
-use Rattle.rule.proofs.Literal.empty.Reads as empty-reads
 
 -- src/lib.rt:170:13
 empty-requires : tie.Need-empty-requires

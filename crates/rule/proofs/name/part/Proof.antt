@@ -3,8 +3,6 @@ use Rattle.rule.proofs.Names.{part-past, part-tail, part-inside}
 use borrow.Author.Needs.{needs}
 use Rattle.rule.proofs.name.part.Statement.{statement}
 use Rattle.rule.proofs.name.part.Tie as tie
-use Rattle.rule.proofs.name.part.Reads as reads
-use Rattle.rule.proofs.name.part.Lts as lts
 
 -- src/name.rt:14:16
 sub-result : tie.Need-sub-result

@@ -9,8 +9,6 @@ use Rattle.rule.proofs.Names.{same-on, same-differs, same-longer, same-
 use borrow.Author.Needs.{needs}
 use Rattle.rule.proofs.name.same_bytes.Statement.{statement}
 use Rattle.rule.proofs.name.same_bytes.Tie as tie
-use Rattle.rule.proofs.name.same_bytes.Reads as reads
-use Rattle.rule.proofs.name.same_bytes.Lts as lts
 
 abbrev Inv-loop : tie.InvT-loop
 Inv-loop a b i₀ i = (i ≤ length a) × ((i ≤ length b) × (same-bytes a b ≡ same-bytes (drop i a) (drop i b)))

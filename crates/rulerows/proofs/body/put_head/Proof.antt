@@ -3,11 +3,6 @@ use Rattle.rulerows.proofs.Bodies.{head-codable, head-stored, no-head}
 use borrow.Author.Needs.{needs}
 use Rattle.rulerows.proofs.body.put_head.Statement.{statement}
 use Rattle.rulerows.proofs.body.put_head.Tie as tie
-use Rattle.rulerows.proofs.body.put_head.Reads as reads
-use Rattle.rulerows.proofs.body.put_head.Lts as lts
-use Rattle.rows.proofs.atom.atom_codes.Reads as atom-codes-reads
-use Rattle.rows.proofs.literal.atom_row.Reads as atom-row-reads
-use Rattle.rulerows.proofs.row.put_row.Reads as put-row-reads
 
 -- src/body.rt:39:13
 atom-codes-requires : tie.Need-atom-codes-requires

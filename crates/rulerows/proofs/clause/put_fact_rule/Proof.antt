@@ -9,11 +9,6 @@ use Rattle.rulerows.proofs.Storing.{head-room, bodiless, rule-stored}
 use borrow.Author.Needs.{needs}
 use Rattle.rulerows.proofs.clause.put_fact_rule.Statement.{statement}
 use Rattle.rulerows.proofs.clause.put_fact_rule.Tie as tie
-use Rattle.rulerows.proofs.clause.put_fact_rule.Reads as reads
-use Rattle.rulerows.proofs.clause.put_fact_rule.Lts as lts
-use Rattle.rulerows.proofs.body.put_head.Reads as put-head-reads
-use Rattle.rulerows.proofs.places.no_numbers.Reads as no-numbers-reads
-use Rattle.rulerows.proofs.places.put_numbers.Reads as put-numbers-reads
 
 -- src/clause.rt:66:14
 mul-at : tie.Need-mul-at

@@ -9,12 +9,6 @@ use Rattle.rulerows.proofs.Storing.{head-room, is-numbered, body-room, 
 use borrow.Author.Needs.{needs}
 use Rattle.rulerows.proofs.clause.put_rule.Statement.{statement}
 use Rattle.rulerows.proofs.clause.put_rule.Tie as tie
-use Rattle.rulerows.proofs.clause.put_rule.Reads as reads
-use Rattle.rulerows.proofs.clause.put_rule.Lts as lts
-use Rattle.rulerows.proofs.body.put_body.Reads as put-body-reads
-use Rattle.rulerows.proofs.body.put_head.Reads as put-head-reads
-use Rattle.rulerows.proofs.places.numbers_of.Reads as numbers-of-reads
-use Rattle.rulerows.proofs.places.put_numbers.Reads as put-numbers-reads
 
 -- src/clause.rt:35:14
 mul-at : tie.Need-mul-at

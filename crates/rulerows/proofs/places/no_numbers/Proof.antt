@@ -3,8 +3,6 @@ use mathlib.Core.Path.{refl}
 use Rattle.rulerows.proofs.Numbers.{none-counted}
 use Rattle.rulerows.proofs.places.no_numbers.Statement.{statement}
 use Rattle.rulerows.proofs.places.no_numbers.Tie as tie
-use Rattle.rulerows.proofs.places.no_numbers.Reads as reads
-use Rattle.rulerows.proofs.places.no_numbers.Lts as lts
 
 -- src/places.rt:130:1
 returns : tie.Need-returns

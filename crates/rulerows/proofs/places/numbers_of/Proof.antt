@@ -6,13 +6,6 @@ use Rattle.rulerows.proofs.Numbers.{scanned-low}
 use borrow.Author.Needs.{needs}
 use Rattle.rulerows.proofs.places.numbers_of.Statement.{statement}
 use Rattle.rulerows.proofs.places.numbers_of.Tie as tie
-use Rattle.rulerows.proofs.places.numbers_of.Reads as reads
-use Rattle.rulerows.proofs.places.numbers_of.Lts as lts
-use Rattle.rule.proofs.least.Reads as least-reads
-use Rattle.rulerows.proofs.places.equation_rows.Reads as equation-rows-reads
-use Rattle.rulerows.proofs.places.has_operation.Reads as has-operation-reads
-use Rattle.rulerows.proofs.places.positive_rows.Reads as positive-rows-reads
-use Rattle.safety.proofs.scan.Reads as scan-reads
 
 -- src/places.rt:119:9
 positive-rows-requires : tie.Need-positive-rows-requires

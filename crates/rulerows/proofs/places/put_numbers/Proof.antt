@@ -6,9 +6,6 @@ use Rattle.rulerows.proofs.Numbers.{room₂, room₃, numbers-stored}
 use borrow.Author.Needs.{needs}
 use Rattle.rulerows.proofs.places.put_numbers.Statement.{statement}
 use Rattle.rulerows.proofs.places.put_numbers.Tie as tie
-use Rattle.rulerows.proofs.places.put_numbers.Reads as reads
-use Rattle.rulerows.proofs.places.put_numbers.Lts as lts
-use Rattle.rulerows.proofs.row.put_row.Reads as put-row-reads
 
 -- src/places.rt:160:24
 slice-aggregate-put-row : tie.Need-slice-aggregate-put-row

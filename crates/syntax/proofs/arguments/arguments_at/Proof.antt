@@ -5,15 +5,6 @@ use Rattle.syntax.proofs.ArgumentLists.{arguments-none, Going, going-st
 use borrow.Author.Needs.{needs}
 use Rattle.syntax.proofs.arguments.arguments_at.Statement.{statement}
 use Rattle.syntax.proofs.arguments.arguments_at.Tie as tie
-use Rattle.syntax.proofs.arguments.arguments_at.Reads as reads
-use Rattle.syntax.proofs.arguments.arguments_at.Lts as lts
-use Rattle.rule.proofs.Arguments.empty.Reads as empty-reads
-use Rattle.rule.proofs.Arguments.with_term.Reads as with-term-reads
-use Rattle.syntax.proofs.arguments.gone.Reads as gone-reads
-use Rattle.syntax.proofs.arguments.stopped.Reads as stopped-reads
-use Rattle.syntax.proofs.separator.separator_at.Reads as separator-at-reads
-use Rattle.syntax.proofs.term.term_at.Reads as term-at-reads
-use Rattle.syntax.proofs.token.token_at.Reads as token-at-reads
 
 abbrev Inv-loop : tie.InvT-loop
 Inv-loop text at ground arguments₀ next₀ met₀ arguments next met = Going ground text at met₀ next met arguments

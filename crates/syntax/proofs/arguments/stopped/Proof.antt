@@ -2,9 +2,6 @@
 use borrow.Author.Needs.{needs}
 use Rattle.syntax.proofs.arguments.stopped.Statement.{statement}
 use Rattle.syntax.proofs.arguments.stopped.Tie as tie
-use Rattle.syntax.proofs.arguments.stopped.Reads as reads
-use Rattle.syntax.proofs.arguments.stopped.Lts as lts
-use Rattle.rule.proofs.Arguments.empty.Reads as empty-reads
 
 -- src/arguments.rt:27:9
 empty-requires : tie.Need-empty-requires

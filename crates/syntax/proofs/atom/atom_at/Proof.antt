@@ -4,13 +4,6 @@ use Rattle.syntax.proofs.Atoms.{atom-stops, atom-goes, atom-wrong, sign
 use borrow.Author.Needs.{needs}
 use Rattle.syntax.proofs.atom.atom_at.Statement.{statement}
 use Rattle.syntax.proofs.atom.atom_at.Tie as tie
-use Rattle.syntax.proofs.atom.atom_at.Reads as reads
-use Rattle.syntax.proofs.atom.atom_at.Lts as lts
-use Rattle.syntax.proofs.atom.minus_atom.Reads as minus-atom-reads
-use Rattle.syntax.proofs.atom.named_atom.Reads as named-atom-reads
-use Rattle.syntax.proofs.atom.stopped.Reads as stopped-reads
-use Rattle.syntax.proofs.term.word_code.Reads as word-code-reads
-use Rattle.syntax.proofs.token.token_at.Reads as token-at-reads
 
 -- src/atom.rt:105:9
 token-at-requires : tie.Need-token-at-requires

@@ -4,12 +4,6 @@ use Rattle.syntax.proofs.Atoms.{minus-wrong, minus-stops, minus-goes}
 use borrow.Author.Needs.{needs}
 use Rattle.syntax.proofs.atom.minus_atom.Statement.{statement}
 use Rattle.syntax.proofs.atom.minus_atom.Tie as tie
-use Rattle.syntax.proofs.atom.minus_atom.Reads as reads
-use Rattle.syntax.proofs.atom.minus_atom.Lts as lts
-use Rattle.syntax.proofs.atom.named_atom.Reads as named-atom-reads
-use Rattle.syntax.proofs.atom.stopped.Reads as stopped-reads
-use Rattle.syntax.proofs.term.word_code.Reads as word-code-reads
-use Rattle.syntax.proofs.token.token_at.Reads as token-at-reads
 
 -- src/atom.rt:88:9
 token-at-requires : tie.Need-token-at-requires

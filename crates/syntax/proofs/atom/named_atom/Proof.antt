@@ -3,13 +3,6 @@ use Rattle.syntax.proofs.Atoms.{named-bare, named-stops, named-goes}
 use borrow.Author.Needs.{needs}
 use Rattle.syntax.proofs.atom.named_atom.Statement.{statement}
 use Rattle.syntax.proofs.atom.named_atom.Tie as tie
-use Rattle.syntax.proofs.atom.named_atom.Reads as reads
-use Rattle.syntax.proofs.atom.named_atom.Lts as lts
-use Rattle.rule.proofs.Arguments.empty.Reads as empty-reads
-use Rattle.syntax.proofs.arguments.arguments_at.Reads as arguments-at-reads
-use Rattle.syntax.proofs.atom.gone.Reads as gone-reads
-use Rattle.syntax.proofs.atom.stopped.Reads as stopped-reads
-use Rattle.syntax.proofs.token.token_at.Reads as token-at-reads
 
 -- src/atom.rt:67:9
 token-at-requires : tie.Need-token-at-requires

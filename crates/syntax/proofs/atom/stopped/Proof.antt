@@ -2,9 +2,6 @@
 use borrow.Author.Needs.{needs}
 use Rattle.syntax.proofs.atom.stopped.Statement.{statement}
 use Rattle.syntax.proofs.atom.stopped.Tie as tie
-use Rattle.syntax.proofs.atom.stopped.Reads as reads
-use Rattle.syntax.proofs.atom.stopped.Lts as lts
-use Rattle.rule.proofs.Atom.empty.Reads as empty-reads
 
 -- src/atom.rt:32:9
 empty-requires : tie.Need-empty-requires

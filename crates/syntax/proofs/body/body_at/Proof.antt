@@ -5,14 +5,6 @@ use Rattle.syntax.proofs.Bodies.{Going, going-start, started, going-sto
 use borrow.Author.Needs.{needs}
 use Rattle.syntax.proofs.body.body_at.Statement.{statement}
 use Rattle.syntax.proofs.body.body_at.Tie as tie
-use Rattle.syntax.proofs.body.body_at.Reads as reads
-use Rattle.syntax.proofs.body.body_at.Lts as lts
-use Rattle.rule.proofs.Rule.head_only.Reads as head-only-reads
-use Rattle.rule.proofs.Rule.with_literal.Reads as with-literal-reads
-use Rattle.syntax.proofs.body.gone.Reads as gone-reads
-use Rattle.syntax.proofs.body.stopped.Reads as stopped-reads
-use Rattle.syntax.proofs.literal.literal_at.Reads as literal-at-reads
-use Rattle.syntax.proofs.separator.separator_at.Reads as separator-at-reads
 
 abbrev Inv-loop : tie.InvT-loop
 Inv-loop text at headed rule₀ next₀ rule next = Going text at headed (rule₀ .head) (rule₀ .variables) next rule

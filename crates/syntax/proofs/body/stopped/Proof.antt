@@ -2,9 +2,6 @@
 use borrow.Author.Needs.{needs}
 use Rattle.syntax.proofs.body.stopped.Statement.{statement}
 use Rattle.syntax.proofs.body.stopped.Tie as tie
-use Rattle.syntax.proofs.body.stopped.Reads as reads
-use Rattle.syntax.proofs.body.stopped.Lts as lts
-use Rattle.rule.proofs.Rule.empty.Reads as empty-reads
 
 -- src/body.rt:30:9
 empty-requires : tie.Need-empty-requires

@@ -4,10 +4,6 @@ use Rattle.syntax.proofs.Builtins.{refused-compared}
 use borrow.Author.Needs.{needs}
 use Rattle.syntax.proofs.builtin.compared.Statement.{statement}
 use Rattle.syntax.proofs.builtin.compared.Tie as tie
-use Rattle.syntax.proofs.builtin.compared.Reads as reads
-use Rattle.syntax.proofs.builtin.compared.Lts as lts
-use Rattle.syntax.proofs.builtin.side_at.Reads as side-at-reads
-use Rattle.syntax.proofs.builtin.stopped.Reads as stopped-reads
 
 -- src/builtin.rt:139:9
 stopped-requires : tie.Need-stopped-requires

@@ -2,9 +2,6 @@
 use borrow.Author.Needs.{needs}
 use Rattle.syntax.proofs.builtin.gone.Statement.{statement}
 use Rattle.syntax.proofs.builtin.gone.Tie as tie
-use Rattle.syntax.proofs.builtin.gone.Reads as reads
-use Rattle.syntax.proofs.builtin.gone.Lts as lts
-use Rattle.rule.proofs.Atom.empty.Reads as empty-reads
 
 -- src/builtin.rt:53:9
 empty-requires : tie.Need-empty-requires

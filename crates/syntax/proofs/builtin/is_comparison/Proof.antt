@@ -2,8 +2,6 @@
 use Rattle.syntax.proofs.Builtins.{no-sign-below, sign-from}
 use Rattle.syntax.proofs.builtin.is_comparison.Statement.{statement}
 use Rattle.syntax.proofs.builtin.is_comparison.Tie as tie
-use Rattle.syntax.proofs.builtin.is_comparison.Reads as reads
-use Rattle.syntax.proofs.builtin.is_comparison.Lts as lts
 
 -- src/builtin.rt:78:9
 returns : tie.Need-returns

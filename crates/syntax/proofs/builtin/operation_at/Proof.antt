@@ -4,13 +4,6 @@ use Rattle.syntax.proofs.Builtins.{tail-none, tail-stops, tail-goes}
 use borrow.Author.Needs.{needs}
 use Rattle.syntax.proofs.builtin.operation_at.Statement.{statement}
 use Rattle.syntax.proofs.builtin.operation_at.Tie as tie
-use Rattle.syntax.proofs.builtin.operation_at.Reads as reads
-use Rattle.syntax.proofs.builtin.operation_at.Lts as lts
-use Rattle.rule.proofs.Term.empty.Reads as empty-reads
-use Rattle.syntax.proofs.builtin.gone.Reads as gone-reads
-use Rattle.syntax.proofs.builtin.stopped.Reads as stopped-reads
-use Rattle.syntax.proofs.term.term_at.Reads as term-at-reads
-use Rattle.syntax.proofs.token.token_at.Reads as token-at-reads
 
 -- src/builtin.rt:88:9
 token-at-requires : tie.Need-token-at-requires

@@ -6,13 +6,6 @@ use Rattle.syntax.proofs.Builtins.{side-wrong, side-stops, side-goes}
 use borrow.Author.Needs.{needs}
 use Rattle.syntax.proofs.builtin.side_at.Statement.{statement}
 use Rattle.syntax.proofs.builtin.side_at.Tie as tie
-use Rattle.syntax.proofs.builtin.side_at.Reads as reads
-use Rattle.syntax.proofs.builtin.side_at.Lts as lts
-use Rattle.syntax.proofs.builtin.is_comparison.Reads as is-comparison-reads
-use Rattle.syntax.proofs.builtin.operation_at.Reads as operation-at-reads
-use Rattle.syntax.proofs.builtin.stopped.Reads as stopped-reads
-use Rattle.syntax.proofs.term.term_at.Reads as term-at-reads
-use Rattle.syntax.proofs.token.token_at.Reads as token-at-reads
 
 -- src/builtin.rt:113:9
 token-at-requires : tie.Need-token-at-requires

@@ -2,9 +2,6 @@
 use borrow.Author.Needs.{needs}
 use Rattle.syntax.proofs.builtin.stopped.Statement.{statement}
 use Rattle.syntax.proofs.builtin.stopped.Tie as tie
-use Rattle.syntax.proofs.builtin.stopped.Reads as reads
-use Rattle.syntax.proofs.builtin.stopped.Lts as lts
-use Rattle.rule.proofs.Literal.empty.Reads as empty-reads
 
 -- src/builtin.rt:37:9
 empty-requires : tie.Need-empty-requires

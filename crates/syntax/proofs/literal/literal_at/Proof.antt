@@ -6,16 +6,6 @@ use Rattle.syntax.proofs.Literals.{not-over, not-goes, minus-over, minu
 use borrow.Author.Needs.{needs}
 use Rattle.syntax.proofs.literal.literal_at.Statement.{statement}
 use Rattle.syntax.proofs.literal.literal_at.Tie as tie
-use Rattle.syntax.proofs.literal.literal_at.Reads as reads
-use Rattle.syntax.proofs.literal.literal_at.Lts as lts
-use Rattle.syntax.proofs.atom.atom_at.Reads as atom-at-reads
-use Rattle.syntax.proofs.builtin.compared.Reads as compared-reads
-use Rattle.syntax.proofs.builtin.stopped.Reads as stopped-reads
-use Rattle.syntax.proofs.literal.minus_literal.Reads as minus-literal-reads
-use Rattle.syntax.proofs.literal.name_literal.Reads as name-literal-reads
-use Rattle.syntax.proofs.literal.of_atom.Reads as of-atom-reads
-use Rattle.syntax.proofs.term.term_at.Reads as term-at-reads
-use Rattle.syntax.proofs.token.token_at.Reads as token-at-reads
 
 -- src/literal.rt:94:9
 token-at-requires : tie.Need-token-at-requires

@@ -4,13 +4,6 @@ use Rattle.syntax.proofs.Literals.{minus-compared, minus-atom}
 use borrow.Author.Needs.{needs}
 use Rattle.syntax.proofs.literal.minus_literal.Statement.{statement}
 use Rattle.syntax.proofs.literal.minus_literal.Tie as tie
-use Rattle.syntax.proofs.literal.minus_literal.Reads as reads
-use Rattle.syntax.proofs.literal.minus_literal.Lts as lts
-use Rattle.syntax.proofs.atom.minus_atom.Reads as minus-atom-reads
-use Rattle.syntax.proofs.builtin.compared.Reads as compared-reads
-use Rattle.syntax.proofs.literal.of_atom.Reads as of-atom-reads
-use Rattle.syntax.proofs.term.negative_number.Reads as negative-number-reads
-use Rattle.syntax.proofs.token.token_at.Reads as token-at-reads
 
 -- src/literal.rt:82:9
 token-at-requires : tie.Need-token-at-requires

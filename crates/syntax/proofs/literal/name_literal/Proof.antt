@@ -4,16 +4,6 @@ use Rattle.syntax.proofs.Literals.{name-stops, name-compared, name-atom
 use borrow.Author.Needs.{needs}
 use Rattle.syntax.proofs.literal.name_literal.Statement.{statement}
 use Rattle.syntax.proofs.literal.name_literal.Tie as tie
-use Rattle.syntax.proofs.literal.name_literal.Reads as reads
-use Rattle.syntax.proofs.literal.name_literal.Lts as lts
-use Rattle.syntax.proofs.atom.named_atom.Reads as named-atom-reads
-use Rattle.syntax.proofs.builtin.is_comparison.Reads as is-comparison-reads
-use Rattle.syntax.proofs.builtin.side_at.Reads as side-at-reads
-use Rattle.syntax.proofs.builtin.stopped.Reads as stopped-reads
-use Rattle.syntax.proofs.literal.of_atom.Reads as of-atom-reads
-use Rattle.syntax.proofs.term.term_of.Reads as term-of-reads
-use Rattle.syntax.proofs.term.word_code.Reads as word-code-reads
-use Rattle.syntax.proofs.token.token_at.Reads as token-at-reads
 
 -- src/literal.rt:65:9
 word-code-requires : tie.Need-word-code-requires

@@ -2,9 +2,6 @@
 use borrow.Author.Needs.{needs}
 use Rattle.syntax.proofs.literal.of_atom.Statement.{statement}
 use Rattle.syntax.proofs.literal.of_atom.Tie as tie
-use Rattle.syntax.proofs.literal.of_atom.Reads as reads
-use Rattle.syntax.proofs.literal.of_atom.Lts as lts
-use Rattle.rule.proofs.Term.empty.Reads as empty-reads
 
 -- src/literal.rt:40:9
 empty-requires : tie.Need-empty-requires

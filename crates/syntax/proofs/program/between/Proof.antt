@@ -3,8 +3,6 @@ use Rattle.syntax.proofs.Rules.{between-empty}
 use borrow.Author.Needs.{needs}
 use Rattle.syntax.proofs.program.between.Statement.{statement}
 use Rattle.syntax.proofs.program.between.Tie as tie
-use Rattle.syntax.proofs.program.between.Reads as reads
-use Rattle.syntax.proofs.program.between.Lts as lts
 
 -- src/program.rt:26:9
 returns : tie.Need-returns

@@ -2,9 +2,6 @@
 use borrow.Author.Needs.{needs}
 use Rattle.syntax.proofs.program.placed.Statement.{statement}
 use Rattle.syntax.proofs.program.placed.Tie as tie
-use Rattle.syntax.proofs.program.placed.Reads as reads
-use Rattle.syntax.proofs.program.placed.Lts as lts
-use Rattle.syntax.proofs.program.between.Reads as between-reads
 
 -- src/program.rt:54:9
 between-requires : tie.Need-between-requires

@@ -3,10 +3,6 @@ use Rattle.syntax.proofs.Rules.{bodied-fits}
 use borrow.Author.Needs.{needs}
 use Rattle.syntax.proofs.program.rule_at.Statement.{statement}
 use Rattle.syntax.proofs.program.rule_at.Tie as tie
-use Rattle.syntax.proofs.program.rule_at.Reads as reads
-use Rattle.syntax.proofs.program.rule_at.Lts as lts
-use Rattle.syntax.proofs.program.rule_from.Reads as rule-from-reads
-use Rattle.syntax.proofs.start.start_at.Reads as start-at-reads
 
 -- src/program.rt:80:9
 start-at-requires : tie.Need-start-at-requires

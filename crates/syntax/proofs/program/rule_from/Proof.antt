@@ -3,11 +3,6 @@ use Rattle.syntax.proofs.Rules.{from-whole, from-bodied}
 use borrow.Author.Needs.{needs}
 use Rattle.syntax.proofs.program.rule_from.Statement.{statement}
 use Rattle.syntax.proofs.program.rule_from.Tie as tie
-use Rattle.syntax.proofs.program.rule_from.Reads as reads
-use Rattle.syntax.proofs.program.rule_from.Lts as lts
-use Rattle.rule.proofs.Rule.head_only.Reads as head-only-reads
-use Rattle.syntax.proofs.body.body_at.Reads as body-at-reads
-use Rattle.syntax.proofs.program.placed.Reads as placed-reads
 
 -- src/program.rt:65:13
 body-at-requires : tie.Need-body-at-requires

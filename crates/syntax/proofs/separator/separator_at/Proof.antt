@@ -4,10 +4,6 @@ use Rattle.syntax.proofs.Lists.{is-comma, is-last, is-neither}
 use borrow.Author.Needs.{needs}
 use Rattle.syntax.proofs.separator.separator_at.Statement.{statement}
 use Rattle.syntax.proofs.separator.separator_at.Tie as tie
-use Rattle.syntax.proofs.separator.separator_at.Reads as reads
-use Rattle.syntax.proofs.separator.separator_at.Lts as lts
-use Rattle.syntax.proofs.separator.gone.Reads as gone-reads
-use Rattle.syntax.proofs.token.token_at.Reads as token-at-reads
 
 -- src/separator.rt:33:9
 token-at-requires : tie.Need-token-at-requires

@@ -3,12 +3,6 @@ use Rattle.syntax.proofs.Rules.{if-ground, constraint-over, constraint-
 use borrow.Author.Needs.{needs}
 use Rattle.syntax.proofs.start.constraint.Statement.{statement}
 use Rattle.syntax.proofs.start.constraint.Tie as tie
-use Rattle.syntax.proofs.start.constraint.Reads as reads
-use Rattle.syntax.proofs.start.constraint.Lts as lts
-use Rattle.rule.proofs.Atom.empty.Reads as Atom-empty-reads
-use Rattle.rule.proofs.Variables.empty.Reads as Variables-empty-reads
-use Rattle.syntax.proofs.start.gone.Reads as gone-reads
-use Rattle.syntax.proofs.start.stopped.Reads as stopped-reads
 
 -- src/start.rt:93:9
 stopped-requires : tie.Need-stopped-requires

@@ -5,9 +5,6 @@ use Rattle.syntax.specs.declared.start.StartRead.{StartRead}
 use borrow.Author.Needs.{needs}
 use Rattle.syntax.proofs.start.ended.Statement.{statement}
 use Rattle.syntax.proofs.start.ended.Tie as tie
-use Rattle.syntax.proofs.start.ended.Reads as reads
-use Rattle.syntax.proofs.start.ended.Lts as lts
-use Rattle.syntax.proofs.start.stopped.Reads as stopped-reads
 
 -- src/start.rt:56:9
 stopped-requires : tie.Need-stopped-requires

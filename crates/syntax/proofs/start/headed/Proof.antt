@@ -3,11 +3,6 @@ use Rattle.syntax.proofs.Rules.{headed-fact, headed-wrong, headed-groun
 use borrow.Author.Needs.{needs}
 use Rattle.syntax.proofs.start.headed.Statement.{statement}
 use Rattle.syntax.proofs.start.headed.Tie as tie
-use Rattle.syntax.proofs.start.headed.Reads as reads
-use Rattle.syntax.proofs.start.headed.Lts as lts
-use Rattle.syntax.proofs.start.gone.Reads as gone-reads
-use Rattle.syntax.proofs.start.stopped.Reads as stopped-reads
-use Rattle.syntax.proofs.token.token_at.Reads as token-at-reads
 
 -- src/start.rt:115:9
 token-at-requires : tie.Need-token-at-requires

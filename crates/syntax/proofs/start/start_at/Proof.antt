@@ -4,15 +4,6 @@ use Rattle.syntax.proofs.Rules.{start-ended, head-stops, head-goes, non
 use borrow.Author.Needs.{needs}
 use Rattle.syntax.proofs.start.start_at.Statement.{statement}
 use Rattle.syntax.proofs.start.start_at.Tie as tie
-use Rattle.syntax.proofs.start.start_at.Reads as reads
-use Rattle.syntax.proofs.start.start_at.Lts as lts
-use Rattle.rule.proofs.Variables.empty.Reads as empty-reads
-use Rattle.syntax.proofs.atom.atom_at.Reads as atom-at-reads
-use Rattle.syntax.proofs.start.constraint.Reads as constraint-reads
-use Rattle.syntax.proofs.start.ended.Reads as ended-reads
-use Rattle.syntax.proofs.start.headed.Reads as headed-reads
-use Rattle.syntax.proofs.start.stopped.Reads as stopped-reads
-use Rattle.syntax.proofs.token.token_at.Reads as token-at-reads
 
 -- src/start.rt:133:9
 token-at-requires : tie.Need-token-at-requires

@@ -2,10 +2,6 @@
 use borrow.Author.Needs.{needs}
 use Rattle.syntax.proofs.start.stopped.Statement.{statement}
 use Rattle.syntax.proofs.start.stopped.Tie as tie
-use Rattle.syntax.proofs.start.stopped.Reads as reads
-use Rattle.syntax.proofs.start.stopped.Lts as lts
-use Rattle.rule.proofs.Atom.empty.Reads as Atom-empty-reads
-use Rattle.rule.proofs.Variables.empty.Reads as Variables-empty-reads
 
 -- src/start.rt:36:9
 empty-requires : tie.Need-empty-requires

@@ -4,12 +4,6 @@ use native.Mathlib.Omega.{arith}
 use borrow.Author.Needs.{needs}
 use Rattle.syntax.proofs.term.anonymous_term.Statement.{statement}
 use Rattle.syntax.proofs.term.anonymous_term.Tie as tie
-use Rattle.syntax.proofs.term.anonymous_term.Reads as reads
-use Rattle.syntax.proofs.term.anonymous_term.Lts as lts
-use Rattle.rule.proofs.Variables.with_place.Reads as with-place-reads
-use Rattle.syntax.proofs.term.gone.Reads as gone-reads
-use Rattle.syntax.proofs.term.stopped.Reads as stopped-reads
-use Rattle.syntax.proofs.term.term_of.Reads as term-of-reads
 
 -- src/term.rt:130:9
 stopped-requires : tie.Need-stopped-requires

@@ -4,11 +4,6 @@ use Rattle.syntax.proofs.Terms.{negative-number, negative-wrong}
 use borrow.Author.Needs.{needs}
 use Rattle.syntax.proofs.term.negative_number.Statement.{statement}
 use Rattle.syntax.proofs.term.negative_number.Tie as tie
-use Rattle.syntax.proofs.term.negative_number.Reads as reads
-use Rattle.syntax.proofs.term.negative_number.Lts as lts
-use Rattle.syntax.proofs.term.number_term.Reads as number-term-reads
-use Rattle.syntax.proofs.term.stopped.Reads as stopped-reads
-use Rattle.syntax.proofs.token.token_at.Reads as token-at-reads
 
 -- src/term.rt:145:9
 token-at-requires : tie.Need-token-at-requires

@@ -4,13 +4,6 @@ use Rattle.syntax.proofs.Terms.{number-big, number-over, number-small}
 use borrow.Author.Needs.{needs}
 use Rattle.syntax.proofs.term.number_term.Statement.{statement}
 use Rattle.syntax.proofs.term.number_term.Tie as tie
-use Rattle.syntax.proofs.term.number_term.Reads as reads
-use Rattle.syntax.proofs.term.number_term.Lts as lts
-use Rattle.lexis.proofs.number.value.Reads as value-reads
-use Rattle.rule.proofs.name.part.Reads as part-reads
-use Rattle.syntax.proofs.term.gone.Reads as gone-reads
-use Rattle.syntax.proofs.term.stopped.Reads as stopped-reads
-use Rattle.syntax.proofs.term.term_of.Reads as term-of-reads
 
 -- src/term.rt:90:24
 part-requires : tie.Need-part-requires

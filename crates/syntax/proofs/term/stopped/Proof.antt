@@ -2,9 +2,6 @@
 use borrow.Author.Needs.{needs}
 use Rattle.syntax.proofs.term.stopped.Statement.{statement}
 use Rattle.syntax.proofs.term.stopped.Tie as tie
-use Rattle.syntax.proofs.term.stopped.Reads as reads
-use Rattle.syntax.proofs.term.stopped.Lts as lts
-use Rattle.rule.proofs.Term.empty.Reads as empty-reads
 
 -- src/term.rt:47:9
 empty-requires : tie.Need-empty-requires

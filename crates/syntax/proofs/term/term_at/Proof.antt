@@ -3,17 +3,6 @@ use Rattle.syntax.proofs.Terms.{name-stops, name-goes, term-number, min
 use borrow.Author.Needs.{needs}
 use Rattle.syntax.proofs.term.term_at.Statement.{statement}
 use Rattle.syntax.proofs.term.term_at.Tie as tie
-use Rattle.syntax.proofs.term.term_at.Reads as reads
-use Rattle.syntax.proofs.term.term_at.Lts as lts
-use Rattle.syntax.proofs.term.anonymous_term.Reads as anonymous-term-reads
-use Rattle.syntax.proofs.term.gone.Reads as gone-reads
-use Rattle.syntax.proofs.term.negative_number.Reads as negative-number-reads
-use Rattle.syntax.proofs.term.number_term.Reads as number-term-reads
-use Rattle.syntax.proofs.term.stopped.Reads as stopped-reads
-use Rattle.syntax.proofs.term.term_of.Reads as term-of-reads
-use Rattle.syntax.proofs.term.variable_term.Reads as variable-term-reads
-use Rattle.syntax.proofs.term.word_code.Reads as word-code-reads
-use Rattle.syntax.proofs.token.token_at.Reads as token-at-reads
 
 -- src/term.rt:190:9
 token-at-requires : tie.Need-token-at-requires

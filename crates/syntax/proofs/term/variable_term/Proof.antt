@@ -4,14 +4,6 @@ use Rattle.syntax.proofs.Terms.{variable-stops, variable-many, variable
 use borrow.Author.Needs.{needs}
 use Rattle.syntax.proofs.term.variable_term.Statement.{statement}
 use Rattle.syntax.proofs.term.variable_term.Tie as tie
-use Rattle.syntax.proofs.term.variable_term.Reads as reads
-use Rattle.syntax.proofs.term.variable_term.Lts as lts
-use Rattle.rule.proofs.Variables.with_place.Reads as with-place-reads
-use Rattle.syntax.proofs.term.gone.Reads as gone-reads
-use Rattle.syntax.proofs.term.stopped.Reads as stopped-reads
-use Rattle.syntax.proofs.term.term_of.Reads as term-of-reads
-use Rattle.syntax.proofs.term.word_code.Reads as word-code-reads
-use Rattle.syntax.proofs.variable.variable_number.Reads as variable-number-reads
 
 -- src/term.rt:129:9
 word-code-requires : tie.Need-word-code-requires

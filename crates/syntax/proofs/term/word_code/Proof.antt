@@ -3,8 +3,6 @@ use borrow.Author.Tests.{lt-ltb, le-ltb}
 use Rattle.syntax.specs.Terms.{wordCode}
 use Rattle.syntax.proofs.term.word_code.Statement.{statement}
 use Rattle.syntax.proofs.term.word_code.Tie as tie
-use Rattle.syntax.proofs.term.word_code.Reads as reads
-use Rattle.syntax.proofs.term.word_code.Lts as lts
 
 -- src/term.rt:90:9
 returns : tie.Need-returns

@@ -4,10 +4,6 @@ use Rattle.syntax.proofs.Tokens.{as-read, read-inside}
 use borrow.Author.Needs.{needs}
 use Rattle.syntax.proofs.token.token_at.Statement.{statement}
 use Rattle.syntax.proofs.token.token_at.Tie as tie
-use Rattle.syntax.proofs.token.token_at.Reads as reads
-use Rattle.syntax.proofs.token.token_at.Lts as lts
-use Rattle.lexis.proofs.kind.kind_number.Reads as kind-number-reads
-use Rattle.lexis.proofs.next_token.Reads as next-token-reads
 
 -- src/token.rt:26:9
 next-token-requires : tie.Need-next-token-requires

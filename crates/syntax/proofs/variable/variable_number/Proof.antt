@@ -11,10 +11,6 @@ use Rattle.syntax.proofs.Variables.{among-here, among-on, among-end}
 use borrow.Author.Needs.{needs}
 use Rattle.syntax.proofs.variable.variable_number.Statement.{statement}
 use Rattle.syntax.proofs.variable.variable_number.Tie as tie
-use Rattle.syntax.proofs.variable.variable_number.Reads as reads
-use Rattle.syntax.proofs.variable.variable_number.Lts as lts
-use Rattle.rule.proofs.name.part.Reads as part-reads
-use Rattle.rule.proofs.name.same_bytes.Reads as same-bytes-reads
 
 abbrev Inv-loop : tie.InvT-loop
 Inv-loop text place variables i₀ i = (i ≤ variables .count) × (first-among (part text place) (map (part text) (take (variables .count) (variables .places))) ≡ i + first-among (part text place) (drop i (map (part text) (take (variables .count) (variables .places)))))
