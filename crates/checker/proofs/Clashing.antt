@@ -11,7 +11,7 @@ use lib.ListN.{length, getElem?}
 use Rattle.meaning.specs.Rules.{Bytes, Fact}
 use Rattle.meaning.specs.Values.{Value, values}
 use Rattle.meaning.specs.Instances.{same-fact}
-use Rattle.meaning.proofs.Booleans.{some-inj}
+use Rattle.meaning.proofs.Booleans.{some-inj, not-twice}
 use Rattle.meaning.proofs.Facts.{same-fact-test}
 use Rattle.meaning.proofs.Values.{value-laws}
 use Rattle.codes.specs.Codes.{Distinct, Coded}
@@ -49,11 +49,7 @@ module _ (names : List Bytes) (table : Distinct names) where
 -- ---- an earlier fact that is the same, or the same with the other sign
 
 twice-turned : (a : Fact Value) → opposite (opposite a) ≡ a
-twice-turned a = ap (λ (b : Bool). record { negative = b; name = a .name; arguments = a .arguments }) (twice (a .negative))
-  where
-    twice : (b : Bool) → not (not b) ≡ b
-    twice true = refl
-    twice false = refl
+twice-turned a = ap (λ (b : Bool). record { negative = b; name = a .name; arguments = a .arguments }) (not-twice (a .negative))
 
 module _ (names : List Bytes) (table : Distinct names) (facts : List ℕ) (count : ℕ) (I : List (Fact Value)) (related : Pairwise (RelatedAtom (CodedName names) (Coded names)) (facts-of facts count) I) where
   pub counted : length I ≡ count

@@ -7,10 +7,10 @@ use Prim.Native.Nat.{ℕ, suc, _≤_, _<_}
 use native.Mathlib.Omega.{arith}
 use native.Mathlib.Decide.{decLt}
 use Rattle.meaning.specs.Rules.{Bytes}
+use Rattle.meaning.proofs.Booleans.{same-or-not}
 use Rattle.tables.specs.Rows.{fact-predicate, fact-arguments}
 use Rattle.tables.specs.WellFormed.{FactTable}
 use Rattle.chains.specs.Links.{row-chain, InChain, Next}
-use Rattle.chains.proofs.Growth.{same-or-not}
 use Rattle.clashes.specs.Clashes.{alike, Earlier, Clash}
 use Rattle.clashes.proofs.Rows.{alike-chained}
 

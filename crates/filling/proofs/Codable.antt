@@ -22,7 +22,7 @@ use Rattle.grammar.specs.Spelling.{Mark, inside, rule, Spelling, mere, with-com
 use Rattle.grammar.specs.Sizes.{too-big}
 use Rattle.grammar.specs.Variables.{Variables, met}
 use Rattle.grammar.specs.Abstraction.{term-for, terms-for, arguments-for, atom-for, literal-for, literals-for, rule-for, rules-for}
-use Rattle.grammar.proofs.Plainer.{All}
+use Rattle.grammar.proofs.Plainer.{All, all-split}
 use Rattle.grammar.proofs.Prefixes.{Prefix, same, more}
 use Rattle.syntax.specs.Written.{rule-variables}
 use Rattle.syntax.proofs.Numbered.{below, rule-below}
@@ -31,18 +31,14 @@ use Rattle.filling.proofs.Fit.{Fit}
 
 -- ---- parts of a spelling
 
-all-split : (l m : List Token) → All Fit (l ++ m) → All Fit l × All Fit m
-all-split [] m h = (tt, h)
-all-split (t ∷ l) m h = let q = all-split l m (h .1) in ((h .0, q .0), q .1)
-
 abbrev Fits : Spelling → Type 0
 Fits l = All Fit (tokens l)
 
 first-part : (l m : Spelling) → Fits (l ++ m) → Fits l
-first-part l m h = all-split (tokens l) (tokens m) (rw (tokens-append l m) at h) .0
+first-part l m h = all-split Fit (tokens l) (tokens m) (rw (tokens-append l m) at h) .0
 
 last-part : (l m : Spelling) → Fits (l ++ m) → Fits m
-last-part l m h = all-split (tokens l) (tokens m) (rw (tokens-append l m) at h) .1
+last-part l m h = all-split Fit (tokens l) (tokens m) (rw (tokens-append l m) at h) .1
 
 every-on : {A : Type 0} (P : A → Type 0) (l : List A) (x : A) → Every P l → P x → Every P (l ▹ x)
 every-on P [] x h k = (k, tt)

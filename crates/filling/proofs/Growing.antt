@@ -1,25 +1,20 @@
 -- A rule's row stays what it is as the tables grow behind it.
-use mathlib.Core.Path.{_≡_, refl, sym, ap, ap₂, _∙_}
+use mathlib.Core.Path.{_≡_, refl, sym, ap, _∙_}
 use mathlib.Core.Bool.{Bool, true, false}
-use mathlib.Core.Logic.{inl, inr}
 use mathlib.Core.Option.{some}
-use mathlib.Core.List.{List, [], _∷_, map}
+use mathlib.Core.List.{List}
 use Prim.Native.Nat.{ℕ, _+_, _*_, _≤_, _<_}
 use native.Mathlib.Omega.{arith}
 use lib.Dec.{eqb}
 use lib.ListN.{length, getD, take, drop}
 use borrow.Author.Tests.{eqb-false}
-use Rattle.meaning.specs.Sets.{In}
+use Rattle.meaning.proofs.Sets.{same-map}
 use Rattle.tables.specs.Rows.{from, literal-column, atom-at, literal-at, equation-at, no-literal, rule-column, equation-places, positive-places, head-at, rule-at}
 use Rattle.tables.specs.WellFormed.{Inside, SideRow, RuleRow}
 use Rattle.tables.proofs.Strides.{from-same}
 use Rattle.rulerows.specs.Stored.{row-at}
 use Rattle.rulerows.proofs.Stored.{part-of-part, number-of-part}
 use Rattle.rulerows.proofs.RowParts.{column-part, atom-part, literal-part, equation-part}
-
-map-same : {A B : Type 0} (f g : A → B) (l : List A) → ((a : A) → In a l → f a ≡ g a) → map f l ≡ map g l
-map-same f g [] h = refl
-map-same f g (x ∷ l) h = ap₂ (λ y ys. y ∷ ys) (h x (inl refl)) (map-same f g l (λ a m. h a (inr m)))
 
 -- the tables agree on the rule's row and on each literal's row that lies in the smaller one
 pub record Agrees (rules rules′ literals literals′ : List ℕ) (r : ℕ) : Type 0 where
@@ -85,10 +80,10 @@ module _ (rules rules′ literals literals′ : List ℕ) (r : ℕ) (a : Agrees 
         short = let f = column 2 (omega arith) in let w = h .short in omega arith;
         few-equations = let f = column 4 (omega arith) in let w = h .few-equations in omega arith;
         equation = λ l m. (let b = h .equation l (rw same-equations at m) in record { inside = same-inside l (b .inside); side = same-side l (b .inside) (b .side); left = let e = same-column l (b .inside) 4 (omega arith) in let f = b .left in omega arith });
-        equations-stored = rw (same-equations, same-rule) (map-same (equation-at literals′) (equation-at literals) (equation-places rules r) (λ l m. same-equation l (h .equation l m .inside)) ∙ h .equations-stored);
+        equations-stored = rw (same-equations, same-rule) (same-map (equation-at literals′) (equation-at literals) (equation-places rules r) (λ l m. same-equation l (h .equation l m .inside)) ∙ h .equations-stored);
         few-positives = let f = column 5 (omega arith) in let w = h .few-positives in omega arith;
         positive = λ l m. same-inside l (h .positive l (rw same-positives at m));
-        positives-stored = rw (same-positives, same-rule) (map-same (atom-at literals′) (atom-at literals) (positive-places rules r) (λ l m. same-atom l (h .positive l m)) ∙ h .positives-stored);
+        positives-stored = rw (same-positives, same-rule) (same-map (atom-at literals′) (atom-at literals) (positive-places rules r) (λ l m. same-atom l (h .positive l m)) ∙ h .positives-stored);
         no-operation = λ z. rw same-rule (h .no-operation (sym (column 3 (omega arith)) ∙ z));
         is-safe = rw same-rule (h .is-safe);
       }

@@ -83,7 +83,7 @@ apart (symbol plus) t h = inl refl
 apart (symbol times) t h = inl refl
 apart (stray b) t h = inl refl
 
-behind-nothing : (t : Token) (ts : List Token) → Apart (t ∷ ts) → Apart ts
+pub behind-nothing : (t : Token) (ts : List Token) → Apart (t ∷ ts) → Apart ts
 behind-nothing t [] h = tt
 behind-nothing t (u ∷ ts) h = h .1
 

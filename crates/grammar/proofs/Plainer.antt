@@ -56,7 +56,7 @@ abbrev pub All : (Token → Type 0) → List Token → Type 0
 All P [] = Unit {0}
 All P (t ∷ ts) = P t × All P ts
 
-all-split : (P : Token → Type 0) (l m : List Token) → All P (l ++ m) → All P l × All P m
+pub all-split : (P : Token → Type 0) (l m : List Token) → All P (l ++ m) → All P l × All P m
 all-split P [] m h = (tt, h)
 all-split P (t ∷ l) m h = let q = all-split P l m (h .1) in ((h .0, q .0), q .1)
 

@@ -6,7 +6,7 @@ use Prim.Native.Nat.{ℕ, _+_, _≤_, _<_}
 use native.Mathlib.Omega.{arith}
 use lib.ListN.{length, getD, set, length-set}
 use lib.Seq.{getD-set-same, getD-set-other}
-use Rattle.queue.proofs.Pushing.{same-or-not}
+use Rattle.meaning.proofs.Booleans.{same-or-not}
 use Rattle.judge.specs.Judged.{Copied}
 
 -- the first k places are copied

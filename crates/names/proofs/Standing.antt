@@ -19,10 +19,6 @@ take-own zero l = refl
 take-own (suc n) [] = refl
 take-own (suc n) (x ∷ l) = ap (λ (r : Bytes). x ∷ r) (take-own n l)
 
-pub nothing : (l : Bytes) → length l ≡ 0 → l ≡ []
-nothing [] e = refl
-nothing (x ∷ l) e = absurd (let z : ⊥ = omega arith in z)
-
 module _ (program output : Bytes) where
   pub in-program : (place : Place) → place .start < length program → bytes-at program output place ≡ part program place
   unfolding bytes-at

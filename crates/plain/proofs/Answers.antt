@@ -1,22 +1,19 @@
 -- The writer's two answers for a text that is read, from what its two passes leave.
-use mathlib.Core.Path.{_≡_, refl, sym as inv, ap, _∙_}
+use mathlib.Core.Path.{_≡_, sym as inv, ap, _∙_}
 use mathlib.Core.Bool.{false}
-use mathlib.Core.List.{[], _∷_, _++_, append-nil}
+use mathlib.Core.List.{[], _++_, append-nil}
 use Prim.Native.Nat.{ℕ, _+_, _-_, _≤_, _<_}
 use native.Mathlib.Omega.{arith}
 use lib.ListN.{length, take, drop}
 use lib.Seq.{sets, sets-eq, drop-length, length-take-le}
 use Rattle.meaning.specs.Rules.{Bytes}
+use Rattle.meaning.proofs.Sets.{nothing-long}
 use Rattle.grammar.specs.Trees.{Program}
 use Rattle.rule.specs.Build.{noPlace}
 use Rattle.plainform.specs.PlainBytes.{plain-bytes}
 use Rattle.plainrule.specs.Put.{Put}
 use Rattle.plainrule.proofs.Puts.{put-length}
 use Rattle.plain.specs.Answer.{answer, WritesProgram, short, writes}
-
-none-left : (left : Bytes) → length left ≡ 0 → left ≡ []
-none-left [] e = refl
-none-left (b ∷ left) e = absurd (omega arith)
 
 -- bytes that fill a part are what stands there
 laid-whole : (part bytes : Bytes) → length bytes ≡ length part → sets part 0 bytes ≡ bytes
@@ -27,7 +24,7 @@ laid-whole part bytes e =
 -- the first pass, on a part with no room, gives the length and leaves nothing
 module _ (c : Program false) (buffer : Bytes) {n : ℕ} {part : Bytes} (p : Put [] 0 (plain-bytes c) n part) where
   untouched : part ++ buffer ≡ buffer
-  untouched = rw (none-left part (put-length p))
+  untouched = rw (nothing-long part (put-length p))
 
   pub too-short : length (part ++ buffer) < n → WritesProgram c buffer (answer 9 noPlace 0) (part ++ buffer)
   too-short h = let e = ap length untouched in rw untouched (short (omega (arith, p .next)))

@@ -38,6 +38,7 @@ use Rattle.grammar.specs.Moves.{Move, on-name, on-variable, on-number, on-compa
 use Rattle.grammar.specs.Machine.{moves, step, machine}
 use Rattle.grammar.proofs.Complete.{complete}
 use Rattle.grammar.proofs.Plainer.{All}
+use Rattle.grammar.proofs.Apart.{behind-nothing}
 use Rattle.syntax.specs.Text.{token-of, placed-token}
 use Rattle.plainform.proofs.Proper.{symbol-kind, kind-for, Proper, token-says, says-proper}
 
@@ -175,11 +176,7 @@ module _ (text : Bytes) where
   written-inside (u ∷ us) at e h a =
       let r = unrolls at u us e in
       let t = token-of (u .kind) (part text (u .place)) in
-      let ih = written-inside us (after u) (r .behind) (h .1) (behind-first t (here us) a) in
+      let ih = written-inside us (after u) (r .behind) (h .1) (behind-nothing t (here us) a) in
       let g = room at u us r h a in
       let l : length (token-bytes t) ≤ u .place .len = rw (token-says (u .kind) (part text (u .place)) (spelled at u (r .first) (r .real) (h .0)) .0, length-take (u .place .len) (drop (u .place .start) text)) (omega arith) in
       rw (r .first, length-append (token-bytes t ++ blank t (here us)) (written (here us)), length-append (token-bytes t) (blank t (here us))) (omega arith)
-    where
-      behind-first : (t : Token) (ts : List Token) → Apart (t ∷ ts) → Apart ts
-      behind-first t [] a = tt
-      behind-first t (u ∷ ts) a = a .1

@@ -11,14 +11,14 @@ use lib.Dec.{ltb}
 use lib.ListN.{length, length-append, getD, getElem?}
 use borrow.Author.Tests.{ltb-true, ltb-false}
 use Rattle.lexis.specs.declared.Place.{Place}
-use Rattle.reading.specs.Reading.{Placed, unplaced, seen}
+use Rattle.reading.specs.Reading.{unplaced, seen}
 use Rattle.reading.specs.Faults.{place-at}
 use Rattle.reading.proofs.Lists.{none-some, some-inj, unplaced-append, seen-append}
+use Rattle.reading.proofs.Theorems.{place-here}
 use Rattle.meaning.specs.Values.{Value}
 use Rattle.meaning.specs.Rules.{Rule}
 use Rattle.meaning.specs.Safety.{bound}
 use Rattle.meaning.proofs.Safety.{scan-exact}
-use Rattle.grammar.specs.Tokens.{Token}
 use Rattle.grammar.specs.Sizes.{programs}
 use Rattle.rule.specs.Build.{noPlace}
 use Rattle.syntax.specs.Ahead.{ends-rule, firsts}
@@ -41,11 +41,6 @@ dots-append (t ∷ l) m = go (ends-rule (t .token)) (dots-append l m)
 at-length : {A : Type 0} (l : List A) (a : A) (m : List A) → getElem? (l ++ a ∷ m) (length l) ≡ some a
 at-length [] a m = refl
 at-length (b ∷ l) a m = at-length l a m
-
-place-of : (end : Place) (before : Tokens) (t : Placed Place Token) (after : Tokens) → place-at end (before ++ t ∷ after) (length before) ≡ t .place
-unfolding place-at
-place-of end [] t after = refl
-place-of end (u ∷ before) t after = place-of end before t after
 
 pub same-cons : {A : Type 0} {a b : A} {l m : List A} → a ≡ b → l ≡ m → a ∷ l ≡ b ∷ m
 same-cons {A} {a} {b} {l} {m} e f = cc
@@ -107,7 +102,7 @@ module _ (rs more : List (Rule Value)) (rule : Rule Value) (before ahead : Token
       let s = standing [] ahead i k p f in
       let e : before ++ ahead ≡ (before ++ s .before) ++ s .token ∷ s .after = ap (λ l. before ++ l) (inv (s .here)) ∙ inv (append-assoc before (s .before) (s .token ∷ s .after)) in
       let n : length before + i ≡ length (before ++ s .before) = inv (length-append before (s .before) ∙ ap (λ n. length before + n) (s .position)) in
-      rw (e, n) (place-of end (before ++ s .before) (s .token) (s .after) ∙ s .place)
+      rw (e, n) (place-here end (before ++ s .before) (s .token) (s .after) ∙ s .place)
 
   -- a case at or behind this rule's first token is one of its variables, or stands behind its dot
   pub record InRule (j : ℕ) : Type 0 where

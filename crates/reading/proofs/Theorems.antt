@@ -23,7 +23,7 @@ unfolding unplaced
 unplaced-length [] = refl
 unplaced-length (t ∷ ts) = ap suc (unplaced-length ts)
 
-place-here : {P T : Type 0} (end : P) (before : List (Placed P T)) (t : Placed P T) (after : List (Placed P T)) → place-at end (before ++ t ∷ after) (length before) ≡ t .place
+pub place-here : {P T : Type 0} (end : P) (before : List (Placed P T)) (t : Placed P T) (after : List (Placed P T)) → place-at end (before ++ t ∷ after) (length before) ≡ t .place
 unfolding place-at
 place-here end [] t after = refl
 place-here end (u ∷ before) t after = place-here end before t after

@@ -1,6 +1,6 @@
 -- The set by value that the positive atoms of a body give is the set of the variables that stand in them.
-use mathlib.Core.Path.{_≡_, refl, sym, ap, _∙_}
-use mathlib.Core.Bool.{Bool, true, false, _||_, or-false, or-assoc, or-comm}
+use mathlib.Core.Path.{_≡_, refl, sym, _∙_}
+use mathlib.Core.Bool.{Bool, true, false, _||_, or-false}
 use mathlib.Core.List.{List, [], _∷_, map, foldl}
 use Prim.Native.Nat.{ℕ, _<_}
 use lib.Dec.{eqb, ltb}
@@ -12,7 +12,7 @@ use Rattle.meaning.specs.Sets.{every, any}
 use Rattle.meaning.specs.Values.{Value}
 use Rattle.meaning.specs.Rules.{Bytes, Literal, positive, negated, builtin}
 use Rattle.meaning.specs.Safety.{in-term, in-atom, positives, in-positives, term-bound, atom-bound, literal-bound}
-use Rattle.meaning.proofs.Booleans.{and-left, and-right}
+use Rattle.meaning.proofs.Booleans.{and-left, and-right, or-turned}
 use Rattle.rule.specs.declared.Term as value-term
 use Rattle.rule.specs.declared.Literal as value-literal
 use Rattle.rule.specs.declared.Rule as value-rule
@@ -51,9 +51,6 @@ marked-adds text b t room h = go (term-is text t) h
     go (numbered k e) h′ = rw (e, k) (with-bit-adds b (t .variable) room (ltb-true (t .variable) 16 (rw e at h′)))
 
 -- ---- a list of terms or of literals, each with what it stands for
-
-or-turned : (p q r : Bool) → (p || (q || r)) ≡ ((q || p) || r)
-or-turned p q r = sym (or-assoc p q r) ∙ ap (λ (s : Bool). s || r) (or-comm p q)
 
 module _ {A M : Type 0} (mark : Bound → A → Bound) (means : A → M) (right : M → Bool) (stands : ℕ → M → Bool) where
   pub fold-adds : ((b : Bound) (a : A) → length (b .bits) ≡ 16 → right (means a) ≡ true → Adds b (mark b a) (λ x. stands x (means a))) → (l : List A) (b : Bound) → length (b .bits) ≡ 16 → every right (map means l) ≡ true → Adds b (foldl mark b l) (λ x. any (stands x) (map means l))

@@ -1,6 +1,6 @@
 -- When a literal's operation leaves the range, by the code of its right side.
 use mathlib.Core.Path.{_≡_, refl, sym, ap, _∙_}
-use mathlib.Core.Bool.{Bool, true, false, not, _||_, cond, true≢false}
+use mathlib.Core.Bool.{Bool, true, false, _||_, cond, true≢false}
 use mathlib.Core.Option.{none, some}
 use mathlib.Core.List.{List, [], _∷_}
 use Prim.Native.Nat.{ℕ, _+_, _-_, _≤_, _<_}
@@ -13,6 +13,7 @@ use Rattle.meaning.specs.Domain.{Domain}
 use Rattle.meaning.specs.Rules.{Bytes, Literal, positive, negated, builtin, plain, computed}
 use Rattle.meaning.specs.Matchings.{Values, side?}
 use Rattle.meaning.specs.Quick.{unfit, side-overflows, literal-overflows}
+use Rattle.meaning.proofs.Booleans.{not-twice}
 use Rattle.codes.specs.Codes.{no-value, beyond}
 use Rattle.codes.specs.Domains.{codes, code-in-range}
 use Rattle.tables.specs.Rows.{from, literal-column, no-operation, side-at, literal-at}
@@ -24,13 +25,9 @@ unfit-slot : (c : ℕ) → unfit code-in-range (slot c) ≡ eqb c beyond
 unfolding unfit code-in-range slot
 unfit-slot c = go (eqb c no-value) refl
   where
-    twice : (t : Bool) → not (not t) ≡ t
-    twice true = refl
-    twice false = refl
-
     go : (t : Bool) → eqb c no-value ≡ t → unfit code-in-range (cond t none (some c)) ≡ eqb c beyond
     go true e = rw (eqb-true c no-value e)
-    go false e = twice (eqb c beyond)
+    go false e = not-twice (eqb c beyond)
 
 module _ (names : List Bytes) (literals : List ℕ) (l : ℕ) (ρ : Values ℕ) where
   pub classical-stays : literal-column literals l 0 < 2 → literal-overflows (codes names) code-in-range ρ (literal-at literals l) ≡ false

@@ -16,6 +16,7 @@ use Rattle.meaning.specs.Values.{number, in-range, operate-numbers}
 use Rattle.meaning.specs.Instances.{value, side-value}
 use Rattle.meaning.specs.Matchings.{value?, operate?, side?}
 use Rattle.meaning.specs.Matcher.{total}
+use Rattle.meaning.proofs.Sets.{element-same}
 use Rattle.codes.specs.Codes.{no-value, beyond, is-number-code, number-code, number-of}
 use Rattle.codes.specs.Arithmetic.{operation-at, kept, applied, result}
 use Rattle.codes.specs.declared.Applied.the-variants.{Result, NoResult, OutOfRange}
@@ -25,7 +26,7 @@ use Rattle.tables.specs.Rows.{term-of, literal-column, no-operation, side-at}
 use Rattle.tables.specs.WellFormed.{SideRow}
 use Rattle.binding.specs.Bindings.{slot, values-of}
 use Rattle.binding.specs.declared.Bindings.{Bindings}
-use Rattle.binding.proofs.Places.{inside, slot-value, slot-none, slot-total}
+use Rattle.binding.proofs.Places.{slot-value, slot-none, slot-total}
 use Rattle.sides.specs.Right.{Right}
 
 -- ---- a term
@@ -37,7 +38,7 @@ module _ (names : List Bytes) (b : Bindings) (t : ℕ) where
 
   pub variable-value : t < no-value → length (b .at) ≡ 16 → getD (b .at) t 0 ≡ value (total (codes names) (values-of b)) (term-of t)
   unfolding term-of value total values-of
-  variable-value h w = rw (lt-ltb t no-value h) (inside (b .at) t 0 no-value (rw w h) ∙ sym (slot-total (getD (b .at) t no-value)))
+  variable-value h w = rw (lt-ltb t no-value h) (element-same (b .at) t 0 no-value (rw w h) ∙ sym (slot-total (getD (b .at) t no-value)))
 
   -- a term of a built-in has the value that the matching gives it
   pub value-known : (t ≡ no-value → ⊥) → (c : ℕ) → c ≡ value (total (codes names) (values-of b)) (term-of t) → slot c ≡ value? (values-of b) (term-of t)

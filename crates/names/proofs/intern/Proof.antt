@@ -1,7 +1,7 @@
 -- `intern` meets its contract: an empty name, one that is there, a full table, and a new name each have their law. Assumes nothing.
 use mathlib.Core.Path.{refl, sym, _∙_}
 use mathlib.Core.Logic.{inl}
-use Rattle.names.proofs.Standing.{nothing}
+use Rattle.meaning.proofs.Sets.{nothing-long}
 use Rattle.names.proofs.Interning.{interned-held, interned-full, addable, interned-new}
 use borrow.Author.Needs.{needs}
 use Rattle.names.proofs.intern.Statement.{statement}
@@ -11,7 +11,7 @@ bytes-at-requires : tie.Need-bytes-at-requires
 bytes-at-requires c κs = search needs
 
 returns : tie.Need-returns
-returns c = (refl, inl (sym (c .before .bytes-at .ensures) ∙ nothing _ (c .if1 .taken)))
+returns c = (refl, inl (sym (c .before .bytes-at .ensures) ∙ nothing-long _ (c .if1 .taken)))
 
 slot-of-requires : tie.Need-slot-of-requires
 slot-of-requires c κs = search needs
