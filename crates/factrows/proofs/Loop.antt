@@ -28,6 +28,7 @@ use Rattle.syntax.specs.Written.{plain-rule}
 use Rattle.syntax.specs.Rules.{ReadsRule}
 use Rattle.syntax.specs.Programs.{ReadAs}
 use Rattle.syntax.proofs.Written.{fact-meant}
+use Rattle.syntax.proofs.Walked.{Walked, walked-start, walked-whole, Next, walked-on, walked-more, walked-begins}
 use Rattle.codes.specs.Codes.{no-value, Coded}
 use Rattle.codes.specs.Predicates.{CodedName}
 use Rattle.codes.specs.Related.{Pairwise, end, pair, RelatedAtom}
@@ -46,7 +47,6 @@ use Rattle.rulerows.proofs.Stored.{kept-self, kept-then, kept-wider, kept-part}
 use Rattle.rulerows.proofs.RowParts.{predicate-part, arguments-part}
 use Rattle.filling.proofs.Fit.{tokens-fit}
 use Rattle.filling.proofs.Codable.{rule-codable}
-use Rattle.filling.proofs.Walked.{Walked, walked-start, walked-whole, Next, walked-on, walked-more, walked-begins}
 use Rattle.filling.proofs.Filled.{few-variables}
 use Rattle.factrows.specs.Filled.{names-of-facts, Filled}
 

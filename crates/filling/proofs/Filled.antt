@@ -23,6 +23,7 @@ use Rattle.syntax.specs.Rules.{Holds, ReadsRule}
 use Rattle.syntax.specs.Programs.{ReadAs}
 use Rattle.syntax.proofs.Written.{rule-meant}
 use Rattle.syntax.proofs.Variables.{count-names}
+use Rattle.syntax.proofs.Walked.{Walked, walked-start, walked-whole, Next, walked-on, walked-more, walked-begins}
 use Rattle.codes.specs.Codes.{Coded}
 use Rattle.codes.specs.Predicates.{CodedName}
 use Rattle.codes.specs.Related.{Pairwise, end, pair, RelatedRule}
@@ -40,7 +41,6 @@ use Rattle.rulerows.proofs.Stored.{inner, kept-self, kept-then, kept-wider, kep
 use Rattle.filling.specs.Rules.{FillableRules, FillsRules}
 use Rattle.filling.proofs.Fit.{tokens-fit}
 use Rattle.filling.proofs.Codable.{rule-codable, rule-safe}
-use Rattle.filling.proofs.Walked.{Walked, walked-start, walked-whole, Next, walked-on, walked-more, walked-begins}
 use Rattle.filling.proofs.Growing.{Agrees, same-rule, grown-row}
 
 -- the program as a part of the two texts

@@ -1,6 +1,5 @@
 pub mod Fit
 pub mod Codable
-pub mod Walked
 pub mod Growing
 pub mod Filled
 pub mod Started

@@ -14,3 +14,4 @@ pub mod Rules
 pub mod Programs
 pub mod Written
 pub mod Numbered
+pub mod Walked

@@ -39,11 +39,11 @@ put-rule-requires c κs = rule-room (c .before .before .before .before .before .
 
 -- src/lib.rt:32:9
 add-count : tie.Need-add-count Inv-loop μ-loop
-add-count c = omega (arith, goes-on (c .before .before .before .before .before .before .before .before .loop .inv (c .before .before .before .before .before .before .before .before .before .before .before .pre .program) (c .before .before .before .before .before .before .before .before .before .before .before .pre .read)) _ (c .before .before .before .before .before .before .before .rule-at .ensures) (c .before .before .before .before .before .before .if1 .left) .more)
+add-count c = omega (arith, goes-on (c .before .before .before .before .before .before .before .before .loop .inv (c .before .before .before .before .before .before .before .before .before .before .before .pre .program) (c .before .before .before .before .before .before .before .before .before .before .before .pre .read)) _ (c .before .before .before .before .before .before .before .rule-at .ensures) (c .before .before .before .before .before .before .if1 .left))
 
 -- src/lib.rt:23:5
 loop-less : tie.Need-loop-less Inv-loop μ-loop
-loop-less c = omega (arith, goes-on (c .before .before .before .before .before .before .before .before .loop .inv (c .before .before .before .before .before .before .before .before .before .before .before .pre .program) (c .before .before .before .before .before .before .before .before .before .before .before .pre .read)) _ (c .before .before .before .before .before .before .before .rule-at .ensures) (c .before .before .before .before .before .before .if1 .left) .more)
+loop-less c = omega (arith, goes-on (c .before .before .before .before .before .before .before .before .loop .inv (c .before .before .before .before .before .before .before .before .before .before .before .pre .program) (c .before .before .before .before .before .before .before .before .before .before .before .pre .read)) _ (c .before .before .before .before .before .before .before .rule-at .ensures) (c .before .before .before .before .before .before .if1 .left))
 
 -- src/lib.rt:23:5
 loop-again : tie.Need-loop-again Inv-loop μ-loop
