@@ -69,7 +69,8 @@ fn cells(job: &Job, row: &Row, measure: Measure, per: Option<Per>) -> Vec<String
     let [facts, matchings] = [Per::Fact, Per::Matching].map(|per| grouped(row.count(per), 0));
     let mut cells = vec![job.name.clone(), facts, matchings, rounds, measure.unit().shown(ours.cost)];
     cells.push(clingo.map(|cost| measure.unit().shown(cost)).unwrap_or_default());
-    cells.push(clingo.map(|cost| grouped(ours.cost / cost, 2)).unwrap_or_default());
+    // less its start, clingo's least job takes no time that the clock can tell
+    cells.push(clingo.filter(|cost| *cost > 0.0).map(|cost| grouped(ours.cost / cost, 2)).unwrap_or_default());
     cells.extend(per.map(|per| measure.small_unit().shown(ours.cost / row.count(per))));
     cells
 }

@@ -17,35 +17,27 @@ Inv-loop buffer₀ program at₀ count₀ next₀ buffer at count next = (c : Pr
 abbrev μ-loop : tie.MeasureT-loop
 μ-loop buffer₀ program at₀ count₀ next₀ buffer at count next = 257 - count
 
--- src/lib.rt:23:5
 loop-holds : tie.Need-loop-holds Inv-loop μ-loop
 loop-holds c = λ p r. starts _ _ p r
 
--- src/lib.rt:24:13
 rule-at-requires : tie.Need-rule-at-requires Inv-loop μ-loop
 rule-at-requires c κs = search needs
 
--- src/lib.rt:26:13
 same-length : tie.Need-same-length Inv-loop μ-loop
 same-length c = put-length (c .before .before .loop .inv (c .before .before .before .before .before .pre .program) (c .before .before .before .before .before .pre .read) .put)
 
--- src/lib.rt:26:13
 returns : tie.Need-returns Inv-loop μ-loop
 returns c = λ p r. whole (c .before .before .loop .inv p r) _ (c .before .rule-at .ensures) (c .if1 .taken)
 
--- src/lib.rt:30:9
 put-rule-requires : tie.Need-put-rule-requires Inv-loop μ-loop
 put-rule-requires c κs = rule-room (c .before .before .before .before .before .loop .inv (c .before .before .before .before .before .before .before .before .pre .program) (c .before .before .before .before .before .before .before .before .pre .read)) _ (c .before .before .before .before .rule-at .ensures) (c .before .before .before .before .before .before .before .before .pre .size) (c .before .before .before .before .before .before .before .before .pre .read) (c .before .before .before .if1 .left)
 
--- src/lib.rt:32:9
 add-count : tie.Need-add-count Inv-loop μ-loop
 add-count c = omega (arith, goes-on (c .before .before .before .before .before .before .before .before .loop .inv (c .before .before .before .before .before .before .before .before .before .before .before .pre .program) (c .before .before .before .before .before .before .before .before .before .before .before .pre .read)) _ (c .before .before .before .before .before .before .before .rule-at .ensures) (c .before .before .before .before .before .before .if1 .left))
 
--- src/lib.rt:23:5
 loop-less : tie.Need-loop-less Inv-loop μ-loop
 loop-less c = omega (arith, goes-on (c .before .before .before .before .before .before .before .before .loop .inv (c .before .before .before .before .before .before .before .before .before .before .before .pre .program) (c .before .before .before .before .before .before .before .before .before .before .before .pre .read)) _ (c .before .before .before .before .before .before .before .rule-at .ensures) (c .before .before .before .before .before .before .if1 .left))
 
--- src/lib.rt:23:5
 loop-again : tie.Need-loop-again Inv-loop μ-loop
 loop-again c = λ p r. written-on (c .before .before .before .before .before .before .before .before .loop .inv p r) _ (c .before .before .before .before .before .before .before .rule-at .ensures) (c .before .before .before .before .before .before .if1 .left) (c .before .before .put-rule .ensures)
 

@@ -4,23 +4,18 @@ use borrow.Author.Needs.{needs}
 use Rattle.plain.proofs.write_plain.Statement.{statement}
 use Rattle.plain.proofs.write_plain.Tie as tie
 
--- src/lib.rt:68:9
 read-program-requires : tie.Need-read-program-requires
 read-program-requires c κs = search needs
 
--- src/lib.rt:71:9
 returns : tie.Need-returns
 returns c = passes-on (c .before .before .before .before .before .before .args .program .now) _ (c .before .before .before .read-program .ensures) (c .if1 .taken) (c .before .before .before .before .before .before .args .buffer .now)
 
--- src/lib.rt:77:5
 write-read-requires : tie.Need-write-read-requires
 write-read-requires c κs = readable (c .before .before .before .before .before .before .before .args .program .now) _ (c .before .before .before .before .read-program .ensures) (c .before .if1 .left)
 
--- src/lib.rt:65:1
 same-length : tie.Need-same-length
 same-length c = search needs
 
--- src/lib.rt:65:1
 returns-2 : tie.Need-returns-2
 returns-2 c = writes-it (c .before .before .before .before .before .before .before .before .before .before .args .program .now) _ (c .before .before .before .before .before .before .before .read-program .ensures) (c .before .before .before .before .if1 .left) (c .before .before .before .before .before .before .before .before .before .before .args .buffer .now) _ _ (c .before .before .write-read .ensures)
 

@@ -3,15 +3,12 @@ use borrow.Author.Needs.{needs}
 use Rattle.program.proofs.finished.Statement.{statement}
 use Rattle.program.proofs.finished.Tie as tie
 
--- src/lib.rt:57:9
 refused-requires : tie.Need-refused-requires
 refused-requires c κs = search needs
 
--- src/lib.rt:57:9
 returns : tie.Need-returns
 returns c = rw (c .before .if1 .taken) (c .refused .ensures)
 
--- src/lib.rt:52:1
 returns-2 : tie.Need-returns-2
 returns-2 c = rw (c .if1 .left)
 

@@ -13,51 +13,39 @@ Inv-loop text unbound₀ at₀ count₀ unbound at count = Going text unbound at
 abbrev μ-loop : tie.MeasureT-loop
 μ-loop text unbound₀ at₀ count₀ unbound at count = 257 - count
 
--- src/lib.rt:72:9
 refused-requires : tie.Need-refused-requires Inv-loop μ-loop
 refused-requires c κs = search needs
 
--- src/lib.rt:72:9
 returns : tie.Need-returns Inv-loop μ-loop
 returns c = over-size (c .before .before .before .args .text .now) (c .before .if1 .taken) _ (c .refused .ensures)
 
--- src/lib.rt:80:5
 loop-holds : tie.Need-loop-holds Inv-loop μ-loop
 loop-holds c = starts (c .before .before .args .text .now)
 
--- src/lib.rt:81:13
 look-at-requires : tie.Need-look-at-requires Inv-loop μ-loop
 look-at-requires c κs = search needs
 
--- src/lib.rt:85:13
 refused-requires-2 : tie.Need-refused-requires-2 Inv-loop μ-loop
 refused-requires-2 c κs = search needs
 
--- src/lib.rt:85:13
 returns-2 : tie.Need-returns-2 Inv-loop μ-loop
 returns-2 c = stops-there (c .before .before .before .before .before .before .before .before .before .args .text .now) (c .before .before .before .before .before .before .before .if1 .left) _ _ _ (c .before .before .before .before .before .before .loop .inv) _ (c .before .before .before .before .before .look-at .ensures .reads) (c .before .if2 .taken) _ (c .refused2 .ensures)
 
--- src/lib.rt:88:13
 finished-requires : tie.Need-finished-requires Inv-loop μ-loop
 finished-requires c κs = search needs
 
--- src/lib.rt:88:13
 returns-3 : tie.Need-returns-3 Inv-loop μ-loop
 returns-3 c = at-end (c .before .before .before .before .before .before .before .before .before .before .args .text .now) (c .before .before .before .before .before .before .before .before .if1 .left) _ _ _ (c .before .before .before .before .before .before .before .loop .inv) _ (c .before .before .before .before .before .before .look-at .ensures .reads) (c .before .before .if2 .left) (c .before .if3 .taken) _ (c .finished .ensures)
 
--- src/lib.rt:91:9
 earlier-requires : tie.Need-earlier-requires Inv-loop μ-loop
 earlier-requires c κs = search needs
 
--- src/lib.rt:93:9
 add-count : tie.Need-add-count Inv-loop μ-loop
 add-count c = omega (arith, room (c .before .before .before .before .before .before .before .before .before .before .before .args .text .now) (c .before .before .before .before .before .before .before .before .before .if1 .left) _ _ _ (c .before .before .before .before .before .before .before .before .loop .inv) _ (c .before .before .before .before .before .before .before .look-at .ensures .reads) (c .before .before .before .if2 .left) (c .before .before .if3 .left))
 
--- src/lib.rt:80:5
 loop-less : tie.Need-loop-less Inv-loop μ-loop
 loop-less c = omega (arith, room (c .before .before .before .before .before .before .before .before .before .before .before .args .text .now) (c .before .before .before .before .before .before .before .before .before .if1 .left) _ _ _ (c .before .before .before .before .before .before .before .before .loop .inv) _ (c .before .before .before .before .before .before .before .look-at .ensures .reads) (c .before .before .before .if2 .left) (c .before .before .if3 .left))
 
--- src/lib.rt:80:5
 loop-again : tie.Need-loop-again Inv-loop μ-loop
 loop-again c = goes-on (c .before .before .before .before .before .before .before .before .before .before .before .args .text .now) (c .before .before .before .before .before .before .before .before .before .if1 .left) _ _ _ (c .before .before .before .before .before .before .before .before .loop .inv) _ (c .before .before .before .before .before .before .before .look-at .ensures .reads) (c .before .before .before .if2 .left) (c .before .before .if3 .left) _ (c .before .before .before .before .before .before .before .look-at .ensures .unbound (c .before .before .before .if2 .left) (c .before .before .if3 .left)) _ (c .earlier .ensures)
 

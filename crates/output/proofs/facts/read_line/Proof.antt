@@ -14,31 +14,24 @@ Inv-loop text at₀ count₀ at count = Gone text at count
 abbrev μ-loop : tie.MeasureT-loop
 μ-loop text at₀ count₀ at count = 1025 - count
 
--- src/facts.rt:20:5
 loop-holds : tie.Need-loop-holds Inv-loop μ-loop
 loop-holds c = gone-start _
 
--- src/facts.rt:21:13
 start-at-requires : tie.Need-start-at-requires Inv-loop μ-loop
 start-at-requires c κs = search needs
 
--- src/facts.rt:25:13
 returns : tie.Need-returns Inv-loop μ-loop
 returns c = gone-stops _ _ _ (c .before .before .before .before .before .loop .inv) _ (ground-whole _ _ _ _ (c .before .before .before .before .start-at .ensures)) (c .if1 .taken)
 
--- src/facts.rt:32:13
 returns-2 : tie.Need-returns-2 Inv-loop μ-loop
 returns-2 c = gone-end _ _ _ (c .before .before .before .before .before .before .loop .inv) _ (ground-whole _ _ _ _ (c .before .before .before .before .before .start-at .ensures)) (c .before .if1 .left) (c .if2 .taken)
 
--- src/facts.rt:38:9
 add-count : tie.Need-add-count Inv-loop μ-loop
 add-count c = omega (arith, gone-room _ _ _ (c .before .before .before .before .before .before .loop .inv) _ (ground-whole _ _ _ _ (c .before .before .before .before .before .start-at .ensures)) (c .before .if1 .left) (c .if2 .left))
 
--- src/facts.rt:20:5
 loop-less : tie.Need-loop-less Inv-loop μ-loop
 loop-less c = omega (arith, gone-room _ _ _ (c .before .before .before .before .before .before .loop .inv) _ (ground-whole _ _ _ _ (c .before .before .before .before .before .start-at .ensures)) (c .before .if1 .left) (c .if2 .left))
 
--- src/facts.rt:20:5
 loop-again : tie.Need-loop-again Inv-loop μ-loop
 loop-again c = gone-on _ _ _ (c .before .before .before .before .before .before .loop .inv) _ (ground-whole _ _ _ _ (c .before .before .before .before .before .start-at .ensures)) (c .before .if1 .left) (c .if2 .left)
 

@@ -9,19 +9,15 @@ use borrow.Author.Needs.{needs}
 use Rattle.plainrule.proofs.clause.put_head.Statement.{statement}
 use Rattle.plainrule.proofs.clause.put_head.Tie as tie
 
--- src/clause.rt:24:9
 put-atom-requires : tie.Need-put-atom-requires
 put-atom-requires c κs = omega (arith, ap length (a-head (c .before .before .before .before .args .text .now) (c .before .before .before .before .args .headed) (c .before .before .before .before .args .head) (c .before .if1 .taken)))
 
--- src/clause.rt:24:9
 same-length : tie.Need-same-length
 same-length c = search needs
 
--- src/clause.rt:24:9
 returns : tie.Need-returns
 returns c = put-as (a-head (c .before .before .before .before .before .before .before .args .text .now) (c .before .before .before .before .before .before .before .args .headed) (c .before .before .before .before .before .before .before .args .head) (c .before .before .before .before .if1 .taken)) (c .before .before .put-atom .ensures)
 
--- src/clause.rt:19:1
 returns-2 : tie.Need-returns-2
 returns-2 c = put-as (no-head (c .before .before .before .args .text .now) (c .before .before .before .args .headed) (c .before .before .before .args .head) (c .if1 .left)) (put-none _ _)
 

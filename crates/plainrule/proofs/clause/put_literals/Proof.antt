@@ -21,44 +21,34 @@ Inv-loop buffer₀ at text count rule next₀ i₀ buffer next i = (i ≤ count)
 abbrev μ-loop : tie.MeasureT-loop
 μ-loop buffer₀ at text count rule next₀ i₀ buffer next i = count - i
 
--- src/clause.rt:68:5
 loop-holds : tie.Need-loop-holds Inv-loop μ-loop
 unfolding commas
 loop-holds c = (omega arith, put-none _ _)
 
--- src/clause.rt:69:20
 mul-literal : tie.Need-mul-literal Inv-loop μ-loop
 mul-literal c = search needs
 
--- src/clause.rt:69:20
 element-copy-out-literal : tie.Need-element-copy-out-literal Inv-loop μ-loop
 element-copy-out-literal c = search needs
 
--- src/clause.rt:70:13
 put-literal-requires : tie.Need-put-literal-requires Inv-loop μ-loop
 put-literal-requires c κs = let h : length (c .before .before .before .before .before .before .args .t4 .body) ≡ 16 = inv (length-map (c .before .before .before .before .before .before .args .t4 .body) _) ∙ c .before .before .before .before .before .before .good .1 .1 .1 .0 .1 .1 .1 .1 .1 .0 .1 .0 .1 in omega (arith, (item-room literal-bytes (literal-of (c .before .before .before .before .before .before .args .text .now)) (c .before .before .before .before .before .before .args .t4 .body) past-end (c .before .before .before .loop .i) (c .before .before .before .before .before .before .args .count) (c .before .before .loop-test .taken) (omega arith)))
 
--- src/clause.rt:71:9
 put-byte-requires : tie.Need-put-byte-requires Inv-loop μ-loop
 put-byte-requires c κs = let h : length (c .before .before .before .before .before .before .before .before .before .before .args .t4 .body) ≡ 16 = inv (length-map (c .before .before .before .before .before .before .before .before .before .before .args .t4 .body) _) ∙ c .before .before .before .before .before .before .before .before .before .before .good .1 .1 .1 .0 .1 .1 .1 .1 .1 .0 .1 .0 .1 in omega (arith, (item-room literal-bytes (literal-of (c .before .before .before .before .before .before .before .before .before .before .args .text .now)) (c .before .before .before .before .before .before .before .before .before .before .args .t4 .body) past-end (c .before .before .before .before .before .before .before .loop .i) (c .before .before .before .before .before .before .before .before .before .before .args .count) (c .before .before .before .before .before .before .loop-test .taken) (omega arith)))
 
--- src/clause.rt:72:9
 add-i : tie.Need-add-i Inv-loop μ-loop
 add-i c = search needs
 
--- src/clause.rt:68:5
 loop-less : tie.Need-loop-less Inv-loop μ-loop
 loop-less c = search needs
 
--- src/clause.rt:68:5
 loop-again : tie.Need-loop-again Inv-loop μ-loop
 loop-again c = let h : length (c .before .before .before .before .before .before .before .before .before .before .before .before .before .args .t4 .body) ≡ 16 = inv (length-map (c .before .before .before .before .before .before .before .before .before .before .before .before .before .args .t4 .body) _) ∙ c .before .before .before .before .before .before .before .before .before .before .before .before .before .good .1 .1 .1 .0 .1 .1 .1 .1 .1 .0 .1 .0 .1 in (omega arith, item-on literal-bytes (literal-of (c .before .before .before .before .before .before .before .before .before .before .before .before .before .args .text .now)) (c .before .before .before .before .before .before .before .before .before .before .before .before .before .args .t4 .body) past-end (c .before .before .before .before .before .before .before .before .before .before .loop .i) (omega arith) (c .before .before .before .before .before .before .before .before .before .before .loop .inv .1) (c .before .before .before .before .before .before .put-literal .ensures) (c .before .before .put-byte .ensures))
 
--- src/clause.rt:61:1
 same-length : tie.Need-same-length Inv-loop μ-loop
 same-length c = put-length (c .before .loop .inv .1)
 
--- src/clause.rt:61:1
 returns : tie.Need-returns Inv-loop μ-loop
 returns c = let e : c .before .before .before .before .args .count ≡ c .before .loop .i = omega arith in put-as (ap (λ (n : ℕ). commas literal-bytes (map (literal-of (c .before .before .before .before .args .text .now)) (take n (c .before .before .before .before .args .t4 .body)))) e) (c .before .loop .inv .1)
 

@@ -9,23 +9,18 @@ use borrow.Author.Needs.{needs}
 use Rattle.plainrule.proofs.clause.put_rule.Statement.{statement}
 use Rattle.plainrule.proofs.clause.put_rule.Tie as tie
 
--- src/clause.rt:68:9
 put-head-requires : tie.Need-put-head-requires
 put-head-requires c κs = omega (arith, c .before .before .before .before .pre, simp length-append at (ap length (rule-parts (c .before .before .before .before .args .text .now) (c .before .before .before .before .args .rule))))
 
--- src/clause.rt:69:9
 put-body-requires : tie.Need-put-body-requires
 put-body-requires c κs = omega (arith, c .before .before .before .before .before .before .before .before .pre, simp length-append at (ap length (rule-parts (c .before .before .before .before .before .before .before .before .args .text .now) (c .before .before .before .before .before .before .before .before .args .rule))))
 
--- src/clause.rt:70:5
 put-byte-requires : tie.Need-put-byte-requires
 put-byte-requires c κs = omega (arith, c .before .before .before .before .before .before .before .before .before .before .before .before .pre, simp length-append at (ap length (rule-parts (c .before .before .before .before .before .before .before .before .before .before .before .before .args .text .now) (c .before .before .before .before .before .before .before .before .before .before .before .before .args .rule))))
 
--- src/clause.rt:63:1
 same-length : tie.Need-same-length
 same-length c = search needs
 
--- src/clause.rt:63:1
 returns : tie.Need-returns
 returns c = put-as (rule-parts (c .before .before .before .before .before .before .before .before .before .before .before .before .before .before .before .args .text .now) (c .before .before .before .before .before .before .before .before .before .before .before .before .before .before .before .args .rule)) (put-then (c .before .before .before .before .before .before .before .before .before .before .put-head .ensures) (put-then (c .before .before .before .before .before .before .put-body .ensures) (c .before .before .put-byte .ensures)))
 

@@ -9,27 +9,21 @@ use borrow.Author.Needs.{needs}
 use Rattle.plainrule.proofs.literal.put_atom.Statement.{statement}
 use Rattle.plainrule.proofs.literal.put_atom.Tie as tie
 
--- src/literal.rt:37:9
 put-minus-requires : tie.Need-put-minus-requires
 put-minus-requires c κs = omega (arith, simp length-append at (ap length (atom-parts (c .before .before .before .args .text .now) (c .before .before .before .args .atom))))
 
--- src/literal.rt:38:43
 part-requires : tie.Need-part-requires
 part-requires c κs = search needs
 
--- src/literal.rt:38:9
 put-bytes-requires : tie.Need-put-bytes-requires
 put-bytes-requires c κs = omega (arith, simp length-append at (ap length (atom-parts (c .before .before .before .before .before .before .before .before .args .text .now) (c .before .before .before .before .before .before .before .before .args .atom))), ap length (c .part .ensures))
 
--- src/literal.rt:40:5
 put-arguments-requires : tie.Need-put-arguments-requires
 put-arguments-requires c κs = omega (arith, simp length-append at (ap length (atom-parts (c .before .before .before .before .before .before .before .before .before .before .before .before .before .args .text .now) (c .before .before .before .before .before .before .before .before .before .before .before .before .before .args .atom))), ap length (c .before .before .before .before .before .part .ensures))
 
--- src/literal.rt:33:1
 same-length : tie.Need-same-length
 same-length c = search needs
 
--- src/literal.rt:33:1
 returns : tie.Need-returns
 returns c = put-as (atom-parts (c .before .before .before .before .before .before .before .before .before .before .before .before .before .before .before .before .args .text .now) (c .before .before .before .before .before .before .before .before .before .before .before .before .before .before .before .before .args .atom)) (put-then (c .before .before .before .before .before .before .before .before .before .before .before .before .put-minus .ensures) (put-then (put-as (inv (c .before .before .before .before .before .before .before .before .part .ensures)) (c .before .before .before .before .before .before .before .put-bytes .ensures)) (c .before .before .put-arguments .ensures)))
 

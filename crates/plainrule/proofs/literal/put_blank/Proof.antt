@@ -9,19 +9,15 @@ use borrow.Author.Needs.{needs}
 use Rattle.plainrule.proofs.literal.put_blank.Statement.{statement}
 use Rattle.plainrule.proofs.literal.put_blank.Tie as tie
 
--- src/literal.rt:49:9
 returns : tie.Need-returns
 returns c = put-as (no-blank (c .before .before .args .negative) (c .if1 .taken)) (put-none _ _)
 
--- src/literal.rt:51:5
 put-byte-requires : tie.Need-put-byte-requires
 put-byte-requires c κs = omega (arith, ap length (one-blank (c .before .before .before .args .negative) (c .before .if1 .left)))
 
--- src/literal.rt:44:1
 same-length : tie.Need-same-length
 same-length c = search needs
 
--- src/literal.rt:44:1
 returns-2 : tie.Need-returns-2
 returns-2 c = put-as (one-blank (c .before .before .before .before .before .before .args .negative) (c .before .before .before .before .if1 .left)) (c .before .before .put-byte .ensures)
 

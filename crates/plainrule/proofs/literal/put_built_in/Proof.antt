@@ -9,39 +9,30 @@ use borrow.Author.Needs.{needs}
 use Rattle.plainrule.proofs.literal.put_built_in.Statement.{statement}
 use Rattle.plainrule.proofs.literal.put_built_in.Tie as tie
 
--- src/literal.rt:113:9
 put-term-requires : tie.Need-put-term-requires
 put-term-requires c κs = omega (arith, built-in-room (c .before .before .before .before .before .before .args .text .now) (c .before .before .before .before .before .before .args .literal) (c .before .before .before .before .before .before .pre .0))
 
--- src/literal.rt:114:9
 put-comparison-requires : tie.Need-put-comparison-requires
 put-comparison-requires c κs = omega (arith, built-in-room (c .before .before .before .before .before .before .before .before .before .before .args .text .now) (c .before .before .before .before .before .before .before .before .before .before .args .literal) (c .before .before .before .before .before .before .before .before .before .before .pre .0))
 
--- src/literal.rt:115:9
 put-term-requires-2 : tie.Need-put-term-requires-2
 put-term-requires-2 c κs = omega (arith, built-in-room (c .before .before .before .before .before .before .before .before .before .before .before .before .before .before .args .text .now) (c .before .before .before .before .before .before .before .before .before .before .before .before .before .before .args .literal) (c .before .before .before .before .before .before .before .before .before .before .before .before .before .before .pre .0))
 
--- src/literal.rt:117:9
 same-length : tie.Need-same-length
 same-length c = search needs
 
--- src/literal.rt:117:9
 returns : tie.Need-returns
 returns c = put-as (compared-parts (c .before .before .before .before .before .before .before .before .before .before .before .before .before .before .before .before .before .before .before .args .text .now) (c .before .before .before .before .before .before .before .before .before .before .before .before .before .before .before .before .before .before .before .args .literal) (c .before .before .before .before .before .before .before .before .before .before .before .before .before .before .before .before .before .before .before .pre .0) (c .if1 .taken)) (put-then (c .before .before .before .before .before .before .before .before .before .before .before .before .put-term .ensures) (put-then (c .before .before .before .before .before .before .before .before .put-comparison .ensures) (c .before .before .before .before .put-term2 .ensures)))
 
--- src/literal.rt:119:9
 put-operation-requires : tie.Need-put-operation-requires
 put-operation-requires c κs = omega (arith, c .before .before .before .before .before .before .before .before .before .before .before .before .before .before .before .before .before .before .before .before .pre .1, simp length-append at (ap length (computed-parts (c .before .before .before .before .before .before .before .before .before .before .before .before .before .before .before .before .before .before .before .before .args .text .now) (c .before .before .before .before .before .before .before .before .before .before .before .before .before .before .before .before .before .before .before .before .args .literal) (c .before .before .before .before .before .before .before .before .before .before .before .before .before .before .before .before .before .before .before .before .pre .0) (c .before .if1 .left))))
 
--- src/literal.rt:120:5
 put-term-requires-3 : tie.Need-put-term-requires-3
 put-term-requires-3 c κs = omega (arith, c .before .before .before .before .before .before .before .before .before .before .before .before .before .before .before .before .before .before .before .before .before .before .before .before .pre .1, simp length-append at (ap length (computed-parts (c .before .before .before .before .before .before .before .before .before .before .before .before .before .before .before .before .before .before .before .before .before .before .before .before .args .text .now) (c .before .before .before .before .before .before .before .before .before .before .before .before .before .before .before .before .before .before .before .before .before .before .before .before .args .literal) (c .before .before .before .before .before .before .before .before .before .before .before .before .before .before .before .before .before .before .before .before .before .before .before .before .pre .0) (c .before .before .before .before .before .if1 .left))))
 
--- src/literal.rt:105:1
 same-length-2 : tie.Need-same-length-2
 same-length-2 c = search needs
 
--- src/literal.rt:105:1
 returns-2 : tie.Need-returns-2
 returns-2 c = put-as (computed-parts (c .before .before .before .before .before .before .before .before .before .before .before .before .before .before .before .before .before .before .before .before .before .before .before .before .before .before .before .args .text .now) (c .before .before .before .before .before .before .before .before .before .before .before .before .before .before .before .before .before .before .before .before .before .before .before .before .before .before .before .args .literal) (c .before .before .before .before .before .before .before .before .before .before .before .before .before .before .before .before .before .before .before .before .before .before .before .before .before .before .before .pre .0) (c .before .before .before .before .before .before .before .before .if1 .left)) (put-then (c .before .before .before .before .before .before .before .before .before .before .before .before .before .before .before .before .before .before .before .before .put-term .ensures) (put-then (c .before .before .before .before .before .before .before .before .before .before .before .before .before .before .before .before .put-comparison .ensures) (put-then (c .before .before .before .before .before .before .before .before .before .before .before .before .put-term2 .ensures) (put-then (c .before .before .before .before .before .before .put-operation .ensures) (c .before .before .put-term3 .ensures)))))
 

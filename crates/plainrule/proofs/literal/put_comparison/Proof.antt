@@ -10,128 +10,100 @@ use borrow.Author.Needs.{needs}
 use Rattle.plainrule.proofs.literal.put_comparison.Statement.{statement}
 use Rattle.plainrule.proofs.literal.put_comparison.Tie as tie
 
--- src/literal.rt:70:38
 slice-aggregate-put-bytes : tie.Need-slice-aggregate-put-bytes
 slice-aggregate-put-bytes c = search needs
 
--- src/literal.rt:70:9
 put-bytes-requires : tie.Need-put-bytes-requires
 unfolding comparison-bytes comparison-of
 put-bytes-requires c κs = omega (arith, ap length (sign-at (c .before .before .if1 .taken)))
 
--- src/literal.rt:70:9
 same-length : tie.Need-same-length
 same-length c = search needs
 
--- src/literal.rt:70:9
 returns : tie.Need-returns
 unfolding comparison-bytes comparison-of
 returns c = put-as (sign-at (c .before .before .before .before .before .if1 .taken)) (c .before .before .put-bytes .ensures)
 
--- src/literal.rt:73:38
 slice-aggregate-put-bytes-2 : tie.Need-slice-aggregate-put-bytes-2
 slice-aggregate-put-bytes-2 c = search needs
 
--- src/literal.rt:73:9
 put-bytes-requires-2 : tie.Need-put-bytes-requires-2
 unfolding comparison-bytes comparison-of
 put-bytes-requires-2 c κs = omega (arith, ap length (sign-at (c .before .before .if2 .taken)))
 
--- src/literal.rt:73:9
 same-length-2 : tie.Need-same-length-2
 same-length-2 c = search needs
 
--- src/literal.rt:73:9
 returns-2 : tie.Need-returns-2
 unfolding comparison-bytes comparison-of
 returns-2 c = put-as (sign-at (c .before .before .before .before .before .if2 .taken)) (c .before .before .put-bytes2 .ensures)
 
--- src/literal.rt:76:38
 slice-aggregate-put-bytes-3 : tie.Need-slice-aggregate-put-bytes-3
 slice-aggregate-put-bytes-3 c = search needs
 
--- src/literal.rt:76:9
 put-bytes-requires-3 : tie.Need-put-bytes-requires-3
 unfolding comparison-bytes comparison-of
 put-bytes-requires-3 c κs = omega (arith, ap length (sign-at (c .before .before .if3 .taken)))
 
--- src/literal.rt:76:9
 same-length-3 : tie.Need-same-length-3
 same-length-3 c = search needs
 
--- src/literal.rt:76:9
 returns-3 : tie.Need-returns-3
 unfolding comparison-bytes comparison-of
 returns-3 c = put-as (sign-at (c .before .before .before .before .before .if3 .taken)) (c .before .before .put-bytes3 .ensures)
 
--- src/literal.rt:79:38
 slice-aggregate-put-bytes-4 : tie.Need-slice-aggregate-put-bytes-4
 slice-aggregate-put-bytes-4 c = search needs
 
--- src/literal.rt:79:9
 put-bytes-requires-4 : tie.Need-put-bytes-requires-4
 unfolding comparison-bytes comparison-of
 put-bytes-requires-4 c κs = omega (arith, ap length (sign-at (c .before .before .if4 .taken)))
 
--- src/literal.rt:79:9
 same-length-4 : tie.Need-same-length-4
 same-length-4 c = search needs
 
--- src/literal.rt:79:9
 returns-4 : tie.Need-returns-4
 unfolding comparison-bytes comparison-of
 returns-4 c = put-as (sign-at (c .before .before .before .before .before .if4 .taken)) (c .before .before .put-bytes4 .ensures)
 
--- src/literal.rt:82:38
 slice-aggregate-put-bytes-5 : tie.Need-slice-aggregate-put-bytes-5
 slice-aggregate-put-bytes-5 c = search needs
 
--- src/literal.rt:82:9
 put-bytes-requires-5 : tie.Need-put-bytes-requires-5
 unfolding comparison-bytes comparison-of
 put-bytes-requires-5 c κs = omega (arith, ap length (sign-at (c .before .before .if5 .taken)))
 
--- src/literal.rt:82:9
 same-length-5 : tie.Need-same-length-5
 same-length-5 c = search needs
 
--- src/literal.rt:82:9
 returns-5 : tie.Need-returns-5
 unfolding comparison-bytes comparison-of
 returns-5 c = put-as (sign-at (c .before .before .before .before .before .if5 .taken)) (c .before .before .put-bytes5 .ensures)
 
--- src/literal.rt:85:38
 slice-aggregate-put-bytes-6 : tie.Need-slice-aggregate-put-bytes-6
 slice-aggregate-put-bytes-6 c = search needs
 
--- src/literal.rt:85:9
 put-bytes-requires-6 : tie.Need-put-bytes-requires-6
 unfolding comparison-bytes comparison-of
 put-bytes-requires-6 c κs = omega (arith, ap length (sign-at (c .before .before .if6 .taken)))
 
--- src/literal.rt:85:9
 same-length-6 : tie.Need-same-length-6
 same-length-6 c = search needs
 
--- src/literal.rt:85:9
 returns-6 : tie.Need-returns-6
 unfolding comparison-bytes comparison-of
 returns-6 c = put-as (sign-at (c .before .before .before .before .before .if6 .taken)) (c .before .before .put-bytes6 .ensures)
 
--- src/literal.rt:87:27
 slice-aggregate-put-bytes-7 : tie.Need-slice-aggregate-put-bytes-7
 slice-aggregate-put-bytes-7 c = search needs
 
--- src/literal.rt:87:5
 put-bytes-requires-7 : tie.Need-put-bytes-requires-7
 unfolding comparison-bytes comparison-of
 put-bytes-requires-7 c κs = omega (arith, ap length (last-sign (c .before .before .before .before .before .before .before .before .before .args .kind) (c .before .before .before .before .before .before .before .if1 .left) (c .before .before .before .before .before .before .if2 .left) (c .before .before .before .before .before .if3 .left) (c .before .before .before .before .if4 .left) (c .before .before .before .if5 .left) (c .before .before .if6 .left)))
 
--- src/literal.rt:65:1
 same-length-7 : tie.Need-same-length-7
 same-length-7 c = search needs
 
--- src/literal.rt:65:1
 returns-7 : tie.Need-returns-7
 unfolding comparison-bytes comparison-of
 returns-7 c = put-as (last-sign (c .before .before .before .before .before .before .before .before .before .before .before .before .args .kind) (c .before .before .before .before .before .before .before .before .before .before .if1 .left) (c .before .before .before .before .before .before .before .before .before .if2 .left) (c .before .before .before .before .before .before .before .before .if3 .left) (c .before .before .before .before .before .before .before .if4 .left) (c .before .before .before .before .before .before .if5 .left) (c .before .before .before .before .before .if6 .left)) (c .before .before .put-bytes7 .ensures)

@@ -8,39 +8,30 @@ use borrow.Author.Needs.{needs}
 use Rattle.plainrule.proofs.literal.put_literal.Statement.{statement}
 use Rattle.plainrule.proofs.literal.put_literal.Tie as tie
 
--- src/literal.rt:129:9
 put-atom-requires : tie.Need-put-atom-requires
 put-atom-requires c κs = omega (arith, ap length (alone (c .before .before .before .before .before .before .args .text .now) (c .before .before .before .before .before .before .args .literal) (c .before .if1 .taken)))
 
--- src/literal.rt:129:9
 same-length : tie.Need-same-length
 same-length c = search needs
 
--- src/literal.rt:129:9
 returns : tie.Need-returns
 returns c = put-as (alone (c .before .before .before .before .before .before .before .before .before .args .text .now) (c .before .before .before .before .before .before .before .before .before .args .literal) (c .before .before .before .before .if1 .taken)) (c .before .before .put-atom .ensures)
 
--- src/literal.rt:132:9
 put-not-requires : tie.Need-put-not-requires
 put-not-requires c κs = omega (arith, ap length (behind-not (c .before .before .before .before .before .before .before .before .args .text .now) (c .before .before .before .before .before .before .before .before .args .literal) (c .before .if2 .taken)))
 
--- src/literal.rt:132:9
 same-length-2 : tie.Need-same-length-2
 same-length-2 c = search needs
 
--- src/literal.rt:132:9
 returns-2 : tie.Need-returns-2
 returns-2 c = put-as (behind-not (c .before .before .before .before .before .before .before .before .before .before .before .args .text .now) (c .before .before .before .before .before .before .before .before .before .before .before .args .literal) (c .before .before .before .before .if2 .taken)) (c .before .before .put-not .ensures)
 
--- src/literal.rt:134:5
 put-built-in-requires : tie.Need-put-built-in-requires
 put-built-in-requires c κs = (omega arith, c .before .before .before .before .before .before .before .before .pre)
 
--- src/literal.rt:123:1
 same-length-3 : tie.Need-same-length-3
 same-length-3 c = search needs
 
--- src/literal.rt:123:1
 returns-3 : tie.Need-returns-3
 returns-3 c = c .before .before .put-built-in .ensures
 

@@ -9,27 +9,21 @@ use borrow.Author.Needs.{needs}
 use Rattle.plainrule.proofs.literal.put_not.Statement.{statement}
 use Rattle.plainrule.proofs.literal.put_not.Tie as tie
 
--- src/literal.rt:59:40
 slice-aggregate-put-bytes : tie.Need-slice-aggregate-put-bytes
 slice-aggregate-put-bytes c = search needs
 
--- src/literal.rt:59:9
 put-bytes-requires : tie.Need-put-bytes-requires
 put-bytes-requires c κs = omega (arith, simp length-append at (ap length (not-parts (c .before .before .before .before .args .text .now) (c .before .before .before .before .args .atom))))
 
--- src/literal.rt:60:9
 put-blank-requires : tie.Need-put-blank-requires
 put-blank-requires c κs = omega (arith, simp length-append at (ap length (not-parts (c .before .before .before .before .before .before .before .before .args .text .now) (c .before .before .before .before .before .before .before .before .args .atom))))
 
--- src/literal.rt:61:5
 put-atom-requires : tie.Need-put-atom-requires
 put-atom-requires c κs = omega (arith, simp length-append at (ap length (not-parts (c .before .before .before .before .before .before .before .before .before .before .before .before .args .text .now) (c .before .before .before .before .before .before .before .before .before .before .before .before .args .atom))))
 
--- src/literal.rt:55:1
 same-length : tie.Need-same-length
 same-length c = search needs
 
--- src/literal.rt:55:1
 returns : tie.Need-returns
 returns c = put-as (not-parts (c .before .before .before .before .before .before .before .before .before .before .before .before .before .before .before .args .text .now) (c .before .before .before .before .before .before .before .before .before .before .before .before .before .before .before .args .atom)) (put-then (c .before .before .before .before .before .before .before .before .before .before .put-bytes .ensures) (put-then (c .before .before .before .before .before .before .put-blank .ensures) (c .before .before .put-atom .ensures)))
 

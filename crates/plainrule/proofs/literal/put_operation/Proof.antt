@@ -12,44 +12,35 @@ use borrow.Author.Needs.{needs}
 use Rattle.plainrule.proofs.literal.put_operation.Statement.{statement}
 use Rattle.plainrule.proofs.literal.put_operation.Tie as tie
 
--- src/literal.rt:96:9
 put-byte-requires : tie.Need-put-byte-requires
 unfolding operation-bytes symbol-bytes spell-operation operation-of
 put-byte-requires c κs = omega (arith, ap length (mark-at (c .before .if1 .taken)))
 
--- src/literal.rt:96:9
 same-length : tie.Need-same-length
 same-length c = search needs
 
--- src/literal.rt:96:9
 returns : tie.Need-returns
 unfolding operation-bytes symbol-bytes spell-operation operation-of
 returns c = put-as (mark-at (c .before .before .before .before .if1 .taken)) (c .before .before .put-byte .ensures)
 
--- src/literal.rt:99:9
 put-byte-requires-2 : tie.Need-put-byte-requires-2
 unfolding operation-bytes symbol-bytes spell-operation operation-of
 put-byte-requires-2 c κs = omega (arith, ap length (mark-at (c .before .if2 .taken)))
 
--- src/literal.rt:99:9
 same-length-2 : tie.Need-same-length-2
 same-length-2 c = search needs
 
--- src/literal.rt:99:9
 returns-2 : tie.Need-returns-2
 unfolding operation-bytes symbol-bytes spell-operation operation-of
 returns-2 c = put-as (mark-at (c .before .before .before .before .if2 .taken)) (c .before .before .put-byte2 .ensures)
 
--- src/literal.rt:101:5
 put-byte-requires-3 : tie.Need-put-byte-requires-3
 unfolding operation-bytes symbol-bytes spell-operation operation-of
 put-byte-requires-3 c κs = omega (arith, ap length (last-mark (c .before .before .before .before .args .kind) (c .before .before .if1 .left) (c .before .if2 .left)))
 
--- src/literal.rt:91:1
 same-length-3 : tie.Need-same-length-3
 same-length-3 c = search needs
 
--- src/literal.rt:91:1
 returns-3 : tie.Need-returns-3
 unfolding operation-bytes symbol-bytes spell-operation operation-of
 returns-3 c = put-as (last-mark (c .before .before .before .before .before .before .before .args .kind) (c .before .before .before .before .before .if1 .left) (c .before .before .before .before .if2 .left)) (c .before .before .put-byte3 .ensures)

@@ -24,7 +24,6 @@ abbrev put-number-below : ℕ → In 1 put-number-kinds.ps
 put-number-below t =
     and 1 put-number-kinds.ps (falls 1 put-number-kinds.ps _<_ μ-put-number t) put-number.Pre
 
--- src/put.rt:38:45
 put-number-cast-put-byte : (t : ℕ) → put-number-lts.Need-cast-put-byte (
   put-byte-reads.Asked,
   put-byte-reads.Learnt,
@@ -33,7 +32,6 @@ put-number-cast-put-byte : (t : ℕ) → put-number-lts.Need-cast-put-byte (
 ) (put-number-at t) put-number.Post
 put-number-cast-put-byte t c = search needs
 
--- src/put.rt:38:37
 put-number-add-put-byte : (t : ℕ) → put-number-lts.Need-add-put-byte (
   put-byte-reads.Asked,
   put-byte-reads.Learnt,
@@ -42,7 +40,6 @@ put-number-add-put-byte : (t : ℕ) → put-number-lts.Need-add-put-byte (
 ) (put-number-at t) put-number.Post
 put-number-add-put-byte t c = search needs
 
--- src/put.rt:38:9
 put-number-put-byte-requires : (t : ℕ) → put-number-lts.Need-put-byte-requires (
   put-byte-reads.Asked,
   put-byte-reads.Learnt,
@@ -51,7 +48,6 @@ put-number-put-byte-requires : (t : ℕ) → put-number-lts.Need-put-byte-requir
 ) (put-number-at t) put-number.Post
 put-number-put-byte-requires t c κs = digit-room (c .before .before .before .args .at) (c .before .before .before .args .number) (c .before .before .before .pre .1) (c .before .if1 .taken)
 
--- src/put.rt:38:9
 put-number-same-length : (t : ℕ) → put-number-lts.Need-same-length (
   put-byte-reads.Asked,
   put-byte-reads.Learnt,
@@ -60,7 +56,6 @@ put-number-same-length : (t : ℕ) → put-number-lts.Need-same-length (
 ) (put-number-at t) put-number.Post
 put-number-same-length t c = put-length (c .before .before .put-byte .ensures)
 
--- src/put.rt:38:9
 put-number-returns : (t : ℕ) → put-number-lts.Need-returns (
   put-byte-reads.Asked,
   put-byte-reads.Learnt,
@@ -69,7 +64,6 @@ put-number-returns : (t : ℕ) → put-number-lts.Need-returns (
 ) (put-number-at t) put-number.Post
 put-number-returns t c = put-digit (c .before .before .before .before .before .before .args .number) (c .before .before .before .before .if1 .taken) (c .before .before .put-byte .ensures)
 
--- src/put.rt:40:9
 put-number-put-number-requires : (t : ℕ) → put-number-lts.Need-put-number-requires (
   put-byte-reads.Asked,
   put-byte-reads.Learnt,
@@ -78,7 +72,6 @@ put-number-put-number-requires : (t : ℕ) → put-number-lts.Need-put-number-re
 ) (put-number-at t) put-number.Post
 put-number-put-number-requires t c κs = (omega (arith, tenth (c .before .before .before .args .number) (c .before .if1 .left), c .before .before .before .pre .0), tens-room (c .before .before .before .args .at) (c .before .before .before .args .number) (c .before .before .before .pre .1) (c .before .if1 .left))
 
--- src/put.rt:41:36
 put-number-cast-put-byte-2 : (t : ℕ) → put-number-lts.Need-cast-put-byte-2 (
   put-byte-reads.Asked,
   put-byte-reads.Learnt,
@@ -87,7 +80,6 @@ put-number-cast-put-byte-2 : (t : ℕ) → put-number-lts.Need-cast-put-byte-2 (
 ) (put-number-at t) put-number.Post
 put-number-cast-put-byte-2 t c = search needs
 
--- src/put.rt:41:28
 put-number-add-put-byte-2 : (t : ℕ) → put-number-lts.Need-add-put-byte-2 (
   put-byte-reads.Asked,
   put-byte-reads.Learnt,
@@ -96,7 +88,6 @@ put-number-add-put-byte-2 : (t : ℕ) → put-number-lts.Need-add-put-byte-2 (
 ) (put-number-at t) put-number.Post
 put-number-add-put-byte-2 t c = search needs
 
--- src/put.rt:41:5
 put-number-put-byte-requires-2 : (t : ℕ) → put-number-lts.Need-put-byte-requires-2 (
   put-byte-reads.Asked,
   put-byte-reads.Learnt,
@@ -105,7 +96,6 @@ put-number-put-byte-requires-2 : (t : ℕ) → put-number-lts.Need-put-byte-requ
 ) (put-number-at t) put-number.Post
 put-number-put-byte-requires-2 t c κs = last-room (c .before .before .before .before .before .before .before .args .at) (c .before .before .before .before .before .before .before .args .number) (c .before .before .before .before .before .before .before .pre .1) (c .before .before .before .before .before .if1 .left) (c .before .before .before .put-number .ensures)
 
--- src/put.rt:33:1
 put-number-same-length-2 : (t : ℕ) → put-number-lts.Need-same-length-2 (
   put-byte-reads.Asked,
   put-byte-reads.Learnt,
@@ -114,7 +104,6 @@ put-number-same-length-2 : (t : ℕ) → put-number-lts.Need-same-length-2 (
 ) (put-number-at t) put-number.Post
 put-number-same-length-2 t c = put-length (put-then (c .before .before .before .before .before .before .put-number .ensures) (c .before .before .put-byte2 .ensures))
 
--- src/put.rt:33:1
 put-number-returns-2 : (t : ℕ) → put-number-lts.Need-returns-2 (
   put-byte-reads.Asked,
   put-byte-reads.Learnt,

@@ -4,27 +4,21 @@ use borrow.Author.Needs.{needs}
 use Rattle.plainrule.proofs.put.put_byte.Statement.{statement}
 use Rattle.plainrule.proofs.put.put_byte.Tie as tie
 
--- src/put.rt:13:9
 slice-write-buffer : tie.Need-slice-write-buffer
 slice-write-buffer c = search needs
 
--- src/put.rt:14:16
 add-result : tie.Need-add-result
 add-result c = search needs
 
--- src/put.rt:14:9
 same-length : tie.Need-same-length
 same-length c = search needs
 
--- src/put.rt:14:9
 returns : tie.Need-returns
 returns c = search needs
 
--- src/put.rt:16:5
 add-result-2 : tie.Need-add-result-2
 add-result-2 c = search needs
 
--- src/put.rt:8:1
 returns-2 : tie.Need-returns-2
 returns-2 c = put-outside _ _ _ (c .if1 .left)
 

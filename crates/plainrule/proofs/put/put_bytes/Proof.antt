@@ -15,35 +15,27 @@ Inv-loop buffer₀ at bytes next₀ i₀ buffer next i = (i ≤ length bytes) ×
 abbrev μ-loop : tie.MeasureT-loop
 μ-loop buffer₀ at bytes next₀ i₀ buffer next i = length bytes - i
 
--- src/put.rt:25:5
 loop-holds : tie.Need-loop-holds Inv-loop μ-loop
 loop-holds c = (omega arith, put-none _ _)
 
--- src/put.rt:26:39
 shared-slice-read-put-byte : tie.Need-shared-slice-read-put-byte Inv-loop μ-loop
 shared-slice-read-put-byte c = search needs
 
--- src/put.rt:26:9
 put-byte-requires : tie.Need-put-byte-requires Inv-loop μ-loop
 put-byte-requires c κs = byte-room (c .before .before .before .before .before .before .args .bytes .now) (c .before .before .before .loop .inv .1) (c .before .before .before .before .before .before .pre) (c .before .before .loop-test .taken)
 
--- src/put.rt:27:9
 add-i : tie.Need-add-i Inv-loop μ-loop
 add-i c = search needs
 
--- src/put.rt:25:5
 loop-less : tie.Need-loop-less Inv-loop μ-loop
 loop-less c = search needs
 
--- src/put.rt:25:5
 loop-again : tie.Need-loop-again Inv-loop μ-loop
 loop-again c = (omega arith, byte-on (c .before .before .before .before .before .before .before .before .before .args .bytes .now) (c .before .before .before .before .before .before .loop .inv .1) (c .before .before .before .before .before .loop-test .taken) (c .before .before .put-byte .ensures))
 
--- src/put.rt:19:1
 same-length : tie.Need-same-length Inv-loop μ-loop
 same-length c = put-length (c .before .loop .inv .1)
 
--- src/put.rt:19:1
 returns : tie.Need-returns Inv-loop μ-loop
 returns c = byte-end (c .before .before .before .before .args .bytes .now) (c .before .loop .inv .1) (c .loop-test .left)
 

@@ -8,19 +8,15 @@ use borrow.Author.Needs.{needs}
 use Rattle.plainrule.proofs.term.put_minus.Statement.{statement}
 use Rattle.plainrule.proofs.term.put_minus.Tie as tie
 
--- src/term.rt:27:9
 put-byte-requires : tie.Need-put-byte-requires
 put-byte-requires c κs = omega (arith, ap length (with-minus (c .before .before .before .args .negative) (c .before .if1 .taken)))
 
--- src/term.rt:27:9
 same-length : tie.Need-same-length
 same-length c = search needs
 
--- src/term.rt:27:9
 returns : tie.Need-returns
 returns c = put-as (with-minus (c .before .before .before .before .before .before .args .negative) (c .before .before .before .before .if1 .taken)) (c .before .before .put-byte .ensures)
 
--- src/term.rt:22:1
 returns-2 : tie.Need-returns-2
 returns-2 c = put-as (without-minus (c .before .before .args .negative) (c .if1 .left)) (put-none _ _)
 

@@ -8,31 +8,24 @@ use borrow.Author.Needs.{needs}
 use Rattle.plainrule.proofs.term.put_signed.Statement.{statement}
 use Rattle.plainrule.proofs.term.put_signed.Tie as tie
 
--- src/term.rt:38:9
 put-number-requires : tie.Need-put-number-requires
 put-number-requires c κs = omega (arith, ap length (signed-zero (c .before .before .before .args .negative) (c .before .before .before .args .value) (c .before .if1 .taken)))
 
--- src/term.rt:38:9
 same-length : tie.Need-same-length
 same-length c = search needs
 
--- src/term.rt:38:9
 returns : tie.Need-returns
 returns c = put-as (signed-zero (c .before .before .before .before .before .before .args .negative) (c .before .before .before .before .before .before .args .value) (c .before .before .before .before .if1 .taken)) (c .before .before .put-number .ensures)
 
--- src/term.rt:40:9
 put-minus-requires : tie.Need-put-minus-requires
 put-minus-requires c κs = omega (arith, simp length-append at (ap length (signed-more (c .before .before .before .args .negative) (c .before .before .before .args .value) (c .before .if1 .left))))
 
--- src/term.rt:41:5
 put-number-requires-2 : tie.Need-put-number-requires-2
 put-number-requires-2 c κs = omega (arith, simp length-append at (ap length (signed-more (c .before .before .before .before .before .before .before .args .negative) (c .before .before .before .before .before .before .before .args .value) (c .before .before .before .before .before .if1 .left))))
 
--- src/term.rt:33:1
 same-length-2 : tie.Need-same-length-2
 same-length-2 c = search needs
 
--- src/term.rt:33:1
 returns-2 : tie.Need-returns-2
 returns-2 c = put-as (signed-more (c .before .before .before .before .before .before .before .before .before .before .args .negative) (c .before .before .before .before .before .before .before .before .before .before .args .value) (c .before .before .before .before .before .before .before .before .if1 .left)) (put-then (c .before .before .before .before .before .before .put-minus .ensures) (c .before .before .put-number2 .ensures))
 

@@ -7,59 +7,45 @@ use borrow.Author.Needs.{needs}
 use Rattle.plainrule.proofs.term.put_term.Statement.{statement}
 use Rattle.plainrule.proofs.term.put_term.Tie as tie
 
--- src/term.rt:49:38
 part-requires : tie.Need-part-requires
 part-requires c κs = search needs
 
--- src/term.rt:49:9
 put-bytes-requires : tie.Need-put-bytes-requires
 put-bytes-requires c κs = omega (arith, ap length ((name-bytes (c .before .before .before .before .before .before .args .text .now) (c .before .before .before .before .before .before .args .term) (c .before .before .if1 .taken)) ∙ inv (c .part .ensures)))
 
--- src/term.rt:49:9
 same-length : tie.Need-same-length
 same-length c = search needs
 
--- src/term.rt:49:9
 returns : tie.Need-returns
 returns c = put-as ((name-bytes (c .before .before .before .before .before .before .before .before .before .args .text .now) (c .before .before .before .before .before .before .before .before .before .args .term) (c .before .before .before .before .before .if1 .taken)) ∙ inv (c .before .before .before .part .ensures)) (c .before .before .put-bytes .ensures)
 
--- src/term.rt:52:9
 put-signed-requires : tie.Need-put-signed-requires
 put-signed-requires c κs = omega (arith, ap length (signed-bytes (c .before .before .before .before .before .before .before .args .text .now) (c .before .before .before .before .before .before .before .args .term) (c .before .before .before .if1 .left) (c .before .if2 .taken)))
 
--- src/term.rt:52:9
 same-length-2 : tie.Need-same-length-2
 same-length-2 c = search needs
 
--- src/term.rt:52:9
 returns-2 : tie.Need-returns-2
 returns-2 c = put-as (signed-bytes (c .before .before .before .before .before .before .before .before .before .before .args .text .now) (c .before .before .before .before .before .before .before .before .before .before .args .term) (c .before .before .before .before .before .before .if1 .left) (c .before .before .before .before .if2 .taken)) (c .before .before .put-signed .ensures)
 
--- src/term.rt:55:38
 part-requires-2 : tie.Need-part-requires-2
 part-requires-2 c κs = search needs
 
--- src/term.rt:55:9
 put-bytes-requires-2 : tie.Need-put-bytes-requires-2
 put-bytes-requires-2 c κs = omega (arith, ap length ((variable-bytes (c .before .before .before .before .before .before .before .before .before .before .args .text .now) (c .before .before .before .before .before .before .before .before .before .before .args .term) (c .before .before .before .before .before .before .if1 .left) (c .before .before .before .before .if2 .left) (c .before .before .if3 .taken)) ∙ inv (c .part2 .ensures)))
 
--- src/term.rt:55:9
 same-length-3 : tie.Need-same-length-3
 same-length-3 c = search needs
 
--- src/term.rt:55:9
 returns-3 : tie.Need-returns-3
 returns-3 c = put-as ((variable-bytes (c .before .before .before .before .before .before .before .before .before .before .before .before .before .args .text .now) (c .before .before .before .before .before .before .before .before .before .before .before .before .before .args .term) (c .before .before .before .before .before .before .before .before .before .if1 .left) (c .before .before .before .before .before .before .before .if2 .left) (c .before .before .before .before .before .if3 .taken)) ∙ inv (c .before .before .before .part2 .ensures)) (c .before .before .put-bytes2 .ensures)
 
--- src/term.rt:57:5
 put-byte-requires : tie.Need-put-byte-requires
 put-byte-requires c κs = omega (arith, ap length (anonymous-bytes (c .before .before .before .before .before .before .before .before .before .args .text .now) (c .before .before .before .before .before .before .before .before .before .args .term) (c .before .before .before .before .before .if1 .left) (c .before .before .before .if2 .left) (c .before .if3 .left)))
 
--- src/term.rt:44:1
 same-length-4 : tie.Need-same-length-4
 same-length-4 c = search needs
 
--- src/term.rt:44:1
 returns-4 : tie.Need-returns-4
 returns-4 c = put-as (anonymous-bytes (c .before .before .before .before .before .before .before .before .before .before .before .before .args .text .now) (c .before .before .before .before .before .before .before .before .before .before .before .before .args .term) (c .before .before .before .before .before .before .before .before .if1 .left) (c .before .before .before .before .before .before .if2 .left) (c .before .before .before .before .if3 .left)) (c .before .before .put-byte .ensures)
 

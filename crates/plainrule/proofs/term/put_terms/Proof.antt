@@ -21,44 +21,34 @@ Inv-loop buffer₀ at text count arguments next₀ i₀ buffer next i = (i ≤ c
 abbrev μ-loop : tie.MeasureT-loop
 μ-loop buffer₀ at text count arguments next₀ i₀ buffer next i = count - i
 
--- src/term.rt:68:5
 loop-holds : tie.Need-loop-holds Inv-loop μ-loop
 unfolding commas
 loop-holds c = (omega arith, put-none _ _)
 
--- src/term.rt:69:20
 mul-term : tie.Need-mul-term Inv-loop μ-loop
 mul-term c = search needs
 
--- src/term.rt:69:20
 element-copy-out-term : tie.Need-element-copy-out-term Inv-loop μ-loop
 element-copy-out-term c = search needs
 
--- src/term.rt:70:13
 put-term-requires : tie.Need-put-term-requires Inv-loop μ-loop
 put-term-requires c κs = let h : length (c .before .before .before .before .before .before .args .t4 .terms) ≡ 8 = inv (length-map (c .before .before .before .before .before .before .args .t4 .terms) _) ∙ c .before .before .before .before .before .before .good .1 .1 .1 .0 .1 .1 .0 .1 .0 .1 in omega (arith, (item-room term-bytes (term-of (c .before .before .before .before .before .before .args .text .now)) (c .before .before .before .before .before .before .args .t4 .terms) noTerm (c .before .before .before .loop .i) (c .before .before .before .before .before .before .args .count) (c .before .before .loop-test .taken) (omega arith)))
 
--- src/term.rt:71:9
 put-byte-requires : tie.Need-put-byte-requires Inv-loop μ-loop
 put-byte-requires c κs = let h : length (c .before .before .before .before .before .before .before .before .before .before .args .t4 .terms) ≡ 8 = inv (length-map (c .before .before .before .before .before .before .before .before .before .before .args .t4 .terms) _) ∙ c .before .before .before .before .before .before .before .before .before .before .good .1 .1 .1 .0 .1 .1 .0 .1 .0 .1 in omega (arith, (item-room term-bytes (term-of (c .before .before .before .before .before .before .before .before .before .before .args .text .now)) (c .before .before .before .before .before .before .before .before .before .before .args .t4 .terms) noTerm (c .before .before .before .before .before .before .before .loop .i) (c .before .before .before .before .before .before .before .before .before .before .args .count) (c .before .before .before .before .before .before .loop-test .taken) (omega arith)))
 
--- src/term.rt:72:9
 add-i : tie.Need-add-i Inv-loop μ-loop
 add-i c = search needs
 
--- src/term.rt:68:5
 loop-less : tie.Need-loop-less Inv-loop μ-loop
 loop-less c = search needs
 
--- src/term.rt:68:5
 loop-again : tie.Need-loop-again Inv-loop μ-loop
 loop-again c = let h : length (c .before .before .before .before .before .before .before .before .before .before .before .before .before .args .t4 .terms) ≡ 8 = inv (length-map (c .before .before .before .before .before .before .before .before .before .before .before .before .before .args .t4 .terms) _) ∙ c .before .before .before .before .before .before .before .before .before .before .before .before .before .good .1 .1 .1 .0 .1 .1 .0 .1 .0 .1 in (omega arith, item-on term-bytes (term-of (c .before .before .before .before .before .before .before .before .before .before .before .before .before .args .text .now)) (c .before .before .before .before .before .before .before .before .before .before .before .before .before .args .t4 .terms) noTerm (c .before .before .before .before .before .before .before .before .before .before .loop .i) (omega arith) (c .before .before .before .before .before .before .before .before .before .before .loop .inv .1) (c .before .before .before .before .before .before .put-term .ensures) (c .before .before .put-byte .ensures))
 
--- src/term.rt:61:1
 same-length : tie.Need-same-length Inv-loop μ-loop
 same-length c = put-length (c .before .loop .inv .1)
 
--- src/term.rt:61:1
 returns : tie.Need-returns Inv-loop μ-loop
 returns c = let e : c .before .before .before .before .args .count ≡ c .before .loop .i = omega arith in put-as (ap (λ (n : ℕ). commas term-bytes (map (term-of (c .before .before .before .before .args .text .now)) (take n (c .before .before .before .before .args .t4 .terms)))) e) (c .before .loop .inv .1)
 

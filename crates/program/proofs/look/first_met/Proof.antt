@@ -7,15 +7,12 @@ use borrow.Author.Needs.{needs}
 use Rattle.program.proofs.look.first_met.Statement.{statement}
 use Rattle.program.proofs.look.first_met.Tie as tie
 
--- src/look.rt:26:9
 returns : tie.Need-returns
 returns c = met-none _ (c .if1 .taken)
 
--- src/look.rt:33:16
 element-copy-out-t8 : tie.Need-element-copy-out-t8
 element-copy-out-t8 c = search needs
 
--- src/look.rt:22:1
 returns-2 : tie.Need-returns-2
 returns-2 c = let sixteen : length (c .before .before .args .t1 .places) ≡ 16 = search (needs, array-length) in met-first _ (c .before .if1 .left) sixteen
 

@@ -6,31 +6,24 @@ use borrow.Author.Needs.{needs}
 use Rattle.program.proofs.look.look_at.Statement.{statement}
 use Rattle.program.proofs.look.look_at.Tie as tie
 
--- src/look.rt:41:9
 start-at-requires : tie.Need-start-at-requires
 start-at-requires c κs = search needs
 
--- src/look.rt:45:13
 first-met-requires : tie.Need-first-met-requires
 first-met-requires c κs = search needs
 
--- src/look.rt:46:9
 returns : tie.Need-returns
 returns c = fact-looks _ _ _ _ (c .before .before .before .before .before .start-at .ensures) (not-true _ (c .before .if1 .taken)) _ (c .first-met .ensures)
 
--- src/look.rt:53:9
 body-at-requires : tie.Need-body-at-requires
 body-at-requires c κs = bodied-fits _ _ _ _ _ (c .before .before .before .before .before .start-at .ensures) (not-false _ (c .before .if1 .left))
 
--- src/look.rt:56:9
 returns-2 : tie.Need-returns-2
 returns-2 c = body-stops _ _ _ _ (c .before .before .before .before .before .before .before .before .before .start-at .ensures) (not-false _ (c .before .before .before .before .before .if1 .left)) _ (c .before .before .before .body-at .ensures) (c .if2 .taken) _
 
--- src/look.rt:66:9
 first-unbound-requires : tie.Need-first-unbound-requires
 first-unbound-requires c κs = body-numbers _ _ _ _ (c .before .before .before .before .before .before .before .before .before .before .start-at .ensures) (not-false _ (c .before .before .before .before .before .before .if1 .left)) _ (c .before .before .before .before .body-at .ensures) (c .before .if2 .left)
 
--- src/look.rt:38:1
 returns-3 : tie.Need-returns-3
 returns-3 c = body-looks _ _ _ _ (c .before .before .before .before .before .before .before .before .before .before .before .start-at .ensures) (not-false _ (c .before .before .before .before .before .before .before .if1 .left)) _ (c .before .before .before .before .before .body-at .ensures) _ (c .first-unbound .ensures)
 

@@ -2,15 +2,12 @@ use borrow.Author.Needs.{needs}
 use Rattle.rule.proofs.Literal.empty.Statement.{statement}
 use Rattle.rule.proofs.Literal.empty.Tie as tie
 
--- src/lib.rt:110:13
 empty-requires : tie.Need-empty-requires
 empty-requires c κs = search needs
 
--- src/lib.rt:111:13
 empty-requires-2 : tie.Need-empty-requires-2
 empty-requires-2 c κs = search needs
 
--- src/lib.rt:107:5
 returns : tie.Need-returns
 returns c = cc
 

@@ -2,19 +2,15 @@ use borrow.Author.Needs.{needs}
 use Rattle.rule.proofs.Rule.empty.Statement.{statement}
 use Rattle.rule.proofs.Rule.empty.Tie as tie
 
--- src/lib.rt:151:13
 empty-requires : tie.Need-empty-requires
 empty-requires c κs = search needs
 
--- src/lib.rt:152:13
 empty-requires-2 : tie.Need-empty-requires-2
 empty-requires-2 c κs = search needs
 
--- src/lib.rt:153:13
 empty-requires-3 : tie.Need-empty-requires-3
 empty-requires-3 c κs = search needs
 
--- src/lib.rt:148:5
 returns : tie.Need-returns
 returns c = cc
 

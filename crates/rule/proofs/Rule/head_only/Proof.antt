@@ -3,11 +3,9 @@ use borrow.Author.Needs.{needs}
 use Rattle.rule.proofs.Rule.head_only.Statement.{statement}
 use Rattle.rule.proofs.Rule.head_only.Tie as tie
 
--- src/lib.rt:170:13
 empty-requires : tie.Need-empty-requires
 empty-requires c κs = search needs
 
--- src/lib.rt:167:5
 returns : tie.Need-returns
 returns c = cc
 

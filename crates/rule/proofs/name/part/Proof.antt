@@ -4,59 +4,45 @@ use borrow.Author.Needs.{needs}
 use Rattle.rule.proofs.name.part.Statement.{statement}
 use Rattle.rule.proofs.name.part.Tie as tie
 
--- src/name.rt:14:16
 sub-result : tie.Need-sub-result
 sub-result c = search needs
 
--- src/name.rt:14:16
 part-result-start : tie.Need-part-result-start
 part-result-start c = search needs
 
--- src/name.rt:14:16
 part-result-end : tie.Need-part-result-end
 part-result-end c = search needs
 
--- src/name.rt:14:9
 returns : tie.Need-returns
 returns c = part-past (c .before .before .args .text .now) (c .before .before .args .place) (c .before .if1 .taken)
 
--- src/name.rt:16:8
 sub-if2 : tie.Need-sub-if2
 sub-if2 c = search needs
 
--- src/name.rt:17:16
 sub-result-2 : tie.Need-sub-result-2
 sub-result-2 c = search needs
 
--- src/name.rt:17:16
 part-result-start-2 : tie.Need-part-result-start-2
 part-result-start-2 c = search needs
 
--- src/name.rt:17:16
 part-result-end-2 : tie.Need-part-result-end-2
 part-result-end-2 c = search needs
 
--- src/name.rt:17:9
 returns-2 : tie.Need-returns-2
 returns-2 c = part-tail (c .before .before .before .before .args .text .now) (c .before .before .before .before .args .place) (c .before .if2 .taken)
 
--- src/name.rt:19:15
 add-end : tie.Need-add-end
 add-end c = search needs
 
--- src/name.rt:20:5
 sub-result-3 : tie.Need-sub-result-3
 sub-result-3 c = search needs
 
--- src/name.rt:20:5
 part-result-start-3 : tie.Need-part-result-start-3
 part-result-start-3 c = search needs
 
--- src/name.rt:20:5
 part-result-end-3 : tie.Need-part-result-end-3
 part-result-end-3 c = search needs
 
--- src/name.rt:8:1
 returns-3 : tie.Need-returns-3
 returns-3 c = part-inside (c .before .before .before .before .before .args .text .now) (c .before .before .before .before .before .args .place)
 

@@ -4,39 +4,30 @@ use borrow.Author.Needs.{needs}
 use Rattle.rulerows.proofs.body.put_head.Statement.{statement}
 use Rattle.rulerows.proofs.body.put_head.Tie as tie
 
--- src/body.rt:39:13
 atom-codes-requires : tie.Need-atom-codes-requires
 atom-codes-requires c κs = (c .before .before .before .before .before .before .pre .0, head-codable (c .before .before .before .before .before .before .args .program .now) (c .before .before .before .before .before .before .args .output .now) _ (c .before .before .before .before .before .before .args .names .now) _ (c .before .before .before .before .before .before .args .head) (c .before .if1 .taken) (c .before .before .before .before .before .before .pre .1))
 
--- src/body.rt:40:19
 atom-row-requires : tie.Need-atom-row-requires
 atom-row-requires c κs = search needs
 
--- src/body.rt:41:27
 mul-put-row : tie.Need-mul-put-row
 mul-put-row c = search needs
 
--- src/body.rt:41:41
 slice-aggregate-put-row : tie.Need-slice-aggregate-put-row
 slice-aggregate-put-row c = search needs
 
--- src/body.rt:41:9
 put-row-requires : tie.Need-put-row-requires
 put-row-requires c κs = search needs
 
--- src/body.rt:42:9
 same-length : tie.Need-same-length
 same-length c = search needs
 
--- src/body.rt:42:9
 same-length-2 : tie.Need-same-length-2
 same-length-2 c = search needs
 
--- src/body.rt:42:9
 returns : tie.Need-returns
 returns c = head-stored (c .before .before .before .before .before .before .before .before .before .before .before .before .before .before .before .args .program .now) (c .before .before .before .before .before .before .before .before .before .before .before .before .before .before .before .args .output .now) _ (c .before .before .before .before .before .before .before .before .before .before .before .before .before .before .before .args .names .now) _ (c .before .before .before .before .before .before .before .before .before .before .before .before .before .before .before .args .head) (c .before .before .before .before .before .before .before .before .before .before .before .before .before .before .before .args .at) (c .before .before .before .before .before .before .before .before .before .before .before .before .before .before .before .pre .2) (c .before .before .before .before .before .before .before .before .before .before .before .before .before .before .before .args .literals .now) (c .before .before .before .before .before .before .before .before .before .before .before .before .before .before .before .pre .3) (c .before .before .before .before .before .before .before .before .before .before .if1 .taken) _ _ (c .before .before .before .before .before .before .before .before .atom-codes .ensures) _ (c .before .before .before .before .before .atom-row .ensures) (search needs) _ (c .before .before .put-row .ensures)
 
--- src/body.rt:25:1
 returns-2 : tie.Need-returns-2
 returns-2 c = no-head (c .before .before .before .before .before .args .program .now) (c .before .before .before .before .before .args .output .now) _ (c .before .before .before .before .before .args .names .now) _ (c .before .before .before .before .before .args .head) (c .before .before .before .before .before .args .at) (c .before .before .before .before .before .pre .2) (c .before .before .before .before .before .args .literals .now) (c .before .before .before .before .before .pre .3) (c .if1 .left) (c .before .before .before .before .before .pre .0)
 

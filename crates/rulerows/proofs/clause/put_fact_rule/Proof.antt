@@ -10,44 +10,34 @@ use borrow.Author.Needs.{needs}
 use Rattle.rulerows.proofs.clause.put_fact_rule.Statement.{statement}
 use Rattle.rulerows.proofs.clause.put_fact_rule.Tie as tie
 
--- src/clause.rt:66:14
 mul-at : tie.Need-mul-at
 mul-at c = let f = c .before .before .before .before .before .pre .few in omega arith
 
--- src/clause.rt:67:9
 put-head-requires : tie.Need-put-head-requires
 unfolding rule-of meant-rule
 put-head-requires c κs = let f = c .before .before .before .before .before .before .before .pre .few in let l = c .before .before .before .before .before .before .before .pre .literals-long in (head-room (c .before .before .before .before .before .before .before .args .program .now) (c .before .before .before .before .before .before .before .args .output .now) (c .before .before .before .before .before .before .before .args .names .now) (c .before .before .before .before .before .before .before .args .rules .now) (c .before .before .before .before .before .before .before .args .literals .now) (c .before .before .before .before .before .before .before .args .number) (c .before .before .before .before .before .before .before .args .source) (headOnly true (c .before .before .before .before .before .before .before .args .head) noVariables) (c .before .before .before .before .before .before .before .pre), c .before .before .before .before .before .before .before .pre .codable .head, omega arith, omega arith)
 
--- src/clause.rt:68:24
 mul-put-numbers : tie.Need-mul-put-numbers
 mul-put-numbers c = let f = c .before .before .before .before .before .before .before .before .before .before .before .before .before .pre .few in omega arith
 
--- src/clause.rt:68:44
 add-put-numbers : tie.Need-add-put-numbers
 add-put-numbers c = let f = c .before .before .before .before .before .before .before .before .before .before .before .before .before .pre .few in omega arith
 
--- src/clause.rt:68:52
 no-numbers-requires : tie.Need-no-numbers-requires
 no-numbers-requires c κs = search needs
 
--- src/clause.rt:68:5
 put-numbers-requires : tie.Need-put-numbers-requires
 put-numbers-requires c κs = c .before .before .before .before .before .before .before .before .before .before .before .before .before .before .pre .rules-long
 
--- src/clause.rt:53:1
 same-length : tie.Need-same-length
 same-length c = search needs
 
--- src/clause.rt:53:1
 same-length-2 : tie.Need-same-length-2
 same-length-2 c = search needs
 
--- src/clause.rt:53:1
 same-length-3 : tie.Need-same-length-3
 same-length-3 c = search needs
 
--- src/clause.rt:53:1
 returns : tie.Need-returns
 unfolding rule-of meant-rule
 returns c = rule-stored (c .before .before .before .before .before .before .before .before .before .before .before .before .before .before .before .before .before .args .program .now) (c .before .before .before .before .before .before .before .before .before .before .before .before .before .before .before .before .before .args .output .now) (c .before .before .before .before .before .before .before .before .before .before .before .before .before .before .before .before .before .args .names .now) (c .before .before .before .before .before .before .before .before .before .before .before .before .before .before .before .before .before .args .rules .now) (c .before .before .before .before .before .before .before .before .before .before .before .before .before .before .before .before .before .args .literals .now) (c .before .before .before .before .before .before .before .before .before .before .before .before .before .before .before .before .before .args .number) (c .before .before .before .before .before .before .before .before .before .before .before .before .before .before .before .before .before .args .source) (headOnly true (c .before .before .before .before .before .before .before .before .before .before .before .before .before .before .before .before .before .args .head) noVariables) (c .before .before .before .before .before .before .before .before .before .before .before .before .before .before .before .before .before .pre) _ _ _ (c .before .before .before .before .before .before .before .before .before .put-head .ensures) _ _ (bodiless (c .before .before .before .before .before .before .before .before .before .before .before .before .before .before .before .before .before .args .program .now) (c .before .before .before .before .before .before .before .before .before .before .before .before .before .before .before .before .before .args .output .now) (c .before .before .before .before .before .before .before .before .before .before .before .before .before .before .before .before .before .args .names .now) (c .before .before .before .before .before .before .before .before .before .before .before .before .before .before .before .before .before .args .rules .now) (c .before .before .before .before .before .before .before .before .before .before .before .before .before .before .before .before .before .args .literals .now) (c .before .before .before .before .before .before .before .before .before .before .before .before .before .before .before .before .before .args .number) (c .before .before .before .before .before .before .before .before .before .before .before .before .before .before .before .before .before .args .source) (headOnly true (c .before .before .before .before .before .before .before .before .before .before .before .before .before .before .before .before .before .args .head) noVariables) (c .before .before .before .before .before .before .before .before .before .before .before .before .before .before .before .before .before .pre) _ _ _ (c .before .before .before .before .before .before .before .before .before .put-head .ensures) refl) _ (c .before .before .put-numbers .ensures .0 _ (c .before .before .before .no-numbers .ensures (c .before .before .before .before .before .before .before .before .before .before .before .before .before .before .before .before .before .args .head) _), c .before .before .put-numbers .ensures .1) refl

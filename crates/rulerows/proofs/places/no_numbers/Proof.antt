@@ -4,7 +4,6 @@ use Rattle.rulerows.proofs.Numbers.{none-counted}
 use Rattle.rulerows.proofs.places.no_numbers.Statement.{statement}
 use Rattle.rulerows.proofs.places.no_numbers.Tie as tie
 
--- src/places.rt:130:1
 returns : tie.Need-returns
 returns c = none-counted _ refl
 

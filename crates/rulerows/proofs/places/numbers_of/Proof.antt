@@ -7,27 +7,21 @@ use borrow.Author.Needs.{needs}
 use Rattle.rulerows.proofs.places.numbers_of.Statement.{statement}
 use Rattle.rulerows.proofs.places.numbers_of.Tie as tie
 
--- src/places.rt:119:9
 positive-rows-requires : tie.Need-positive-rows-requires
 positive-rows-requires c κs = search needs
 
--- src/places.rt:120:35
 scan-requires : tie.Need-scan-requires
 scan-requires c κs = search needs
 
--- src/places.rt:120:9
 equation-rows-requires : tie.Need-equation-rows-requires
 equation-rows-requires c κs = let sixteen : length (c .before .before .args .rule .body) ≡ 16 = search (needs, array-length) in (c .before .before .pre .1, scanned-low (c .before .before .args .rule) (c .scan .result) (c .scan .ensures) sixteen)
 
--- src/places.rt:122:19
 least-requires : tie.Need-least-requires
 least-requires c κs = search needs
 
--- src/places.rt:123:20
 has-operation-requires : tie.Need-has-operation-requires
 has-operation-requires c κs = search needs
 
--- src/places.rt:115:1
 returns : tie.Need-returns
 returns c = record { literals = c .before .least .ensures; operation = c .has-operation .ensures; scan = c .before .before .before .scan .result; scanned = c .before .before .before .scan .ensures; equations = c .before .before .equation-rows .ensures .0; few-equations = c .before .before .equation-rows .ensures .1; positives = c .before .before .before .before .positive-rows .ensures .0; few-positives = c .before .before .before .before .positive-rows .ensures .1 }
 

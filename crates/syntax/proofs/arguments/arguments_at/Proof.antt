@@ -12,67 +12,51 @@ Inv-loop text at ground arguments₀ next₀ met₀ arguments next met = Going g
 abbrev μ-loop : tie.MeasureT-loop
 μ-loop text at ground arguments₀ next₀ met₀ arguments next met = 9 - arguments .count
 
--- src/arguments.rt:54:9
 token-at-requires : tie.Need-token-at-requires Inv-loop μ-loop
 token-at-requires c κs = search needs
 
--- src/arguments.rt:55:9
 empty-requires : tie.Need-empty-requires Inv-loop μ-loop
 empty-requires c κs = search needs
 
--- src/arguments.rt:57:9
 gone-requires : tie.Need-gone-requires Inv-loop μ-loop
 gone-requires c κs = search needs
 
--- src/arguments.rt:57:9
 returns : tie.Need-returns Inv-loop μ-loop
 returns c = arguments-none (c .before .before .before .before .before .before .args .ground) (c .before .before .before .before .before .before .args .text .now) (c .before .before .before .before .before .before .args .at) _ (c .before .before .before .before .token-at .ensures) _ (c .before .before .before .before .before .before .pre) (c .before .if1 .taken) _ (c .before .before .before .empty .ensures) _ (c .gone .ensures)
 
--- src/arguments.rt:61:5
 loop-holds : tie.Need-loop-holds Inv-loop μ-loop
 loop-holds c = going-start (c .before .before .before .before .before .args .ground) (c .before .before .before .before .before .args .text .now) (c .before .before .before .before .before .args .at) _ (c .before .before .before .token-at .ensures) _ (c .before .before .before .before .before .pre) (c .if1 .left) _ (c .before .before .empty .ensures)
 
--- src/arguments.rt:62:13
 term-at-requires : tie.Need-term-at-requires Inv-loop μ-loop
 term-at-requires c κs = c .before .loop .inv .fits
 
--- src/arguments.rt:65:13
 stopped-requires : tie.Need-stopped-requires Inv-loop μ-loop
 stopped-requires c κs = search needs
 
--- src/arguments.rt:65:13
 returns-2 : tie.Need-returns-2 Inv-loop μ-loop
 returns-2 c = going-stops _ _ _ _ _ _ _ (c .before .before .before .before .before .before .loop .inv) _ (c .before .before .before .before .term-at .ensures) (c .before .if2 .taken) _ (c .stopped .ensures)
 
--- src/arguments.rt:68:9
 with-term-requires : tie.Need-with-term-requires Inv-loop μ-loop
 with-term-requires c κs = going-room _ _ _ _ _ _ _ (c .before .before .before .before .before .before .loop .inv) _ (c .before .before .before .before .term-at .ensures) (c .before .if2 .left)
 
--- src/arguments.rt:70:13
 separator-at-requires : tie.Need-separator-at-requires Inv-loop μ-loop
 separator-at-requires c κs = search needs
 
--- src/arguments.rt:73:13
 stopped-requires-2 : tie.Need-stopped-requires-2 Inv-loop μ-loop
 stopped-requires-2 c κs = search needs
 
--- src/arguments.rt:73:13
 returns-3 : tie.Need-returns-3 Inv-loop μ-loop
 returns-3 c = going-wrong _ _ _ _ _ _ _ (c .before .before .before .before .before .before .before .before .before .before .before .before .before .loop .inv) _ (c .before .before .before .before .before .before .before .before .before .before .before .term-at .ensures) (c .before .before .before .before .before .before .before .before .if2 .left) _ (c .before .before .before .before .before .before .with-term .ensures) _ (c .before .before .before .before .separator-at .ensures) (c .before .if3 .taken) _ (c .stopped2 .ensures)
 
--- src/arguments.rt:76:13
 gone-requires-2 : tie.Need-gone-requires-2 Inv-loop μ-loop
 gone-requires-2 c κs = search needs
 
--- src/arguments.rt:76:13
 returns-4 : tie.Need-returns-4 Inv-loop μ-loop
 returns-4 c = going-end _ _ _ _ _ _ _ (c .before .before .before .before .before .before .before .before .before .before .before .before .before .before .loop .inv) _ (c .before .before .before .before .before .before .before .before .before .before .before .before .term-at .ensures) (c .before .before .before .before .before .before .before .before .before .if2 .left) _ (c .before .before .before .before .before .before .before .with-term .ensures) _ (c .before .before .before .before .before .separator-at .ensures) (c .before .before .if3 .left) (c .before .if4 .taken) _ (c .gone2 .ensures)
 
--- src/arguments.rt:61:5
 loop-less : tie.Need-loop-less Inv-loop μ-loop
 loop-less c = going-less _ _ _ _ _ _ _ (c .before .before .before .before .before .before .before .before .before .before .before .before .before .loop .inv) _ (c .before .before .before .before .before .before .before .before .before .before .before .term-at .ensures) (c .before .before .before .before .before .before .before .before .if2 .left) _ (c .before .before .before .before .before .before .with-term .ensures)
 
--- src/arguments.rt:61:5
 loop-again : tie.Need-loop-again Inv-loop μ-loop
 loop-again c = going-on _ _ _ _ _ _ _ (c .before .before .before .before .before .before .before .before .before .before .before .before .before .loop .inv) _ (c .before .before .before .before .before .before .before .before .before .before .before .term-at .ensures) (c .before .before .before .before .before .before .before .before .if2 .left) _ (c .before .before .before .before .before .before .with-term .ensures) _ (c .before .before .before .before .separator-at .ensures) (c .before .if3 .left) (c .if4 .left)
 

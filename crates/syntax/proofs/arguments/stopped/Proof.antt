@@ -3,11 +3,9 @@ use borrow.Author.Needs.{needs}
 use Rattle.syntax.proofs.arguments.stopped.Statement.{statement}
 use Rattle.syntax.proofs.arguments.stopped.Tie as tie
 
--- src/arguments.rt:27:9
 empty-requires : tie.Need-empty-requires
 empty-requires c κs = search needs
 
--- src/arguments.rt:24:1
 returns : tie.Need-returns
 returns c = cc
 

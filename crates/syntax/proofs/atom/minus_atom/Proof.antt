@@ -5,35 +5,27 @@ use borrow.Author.Needs.{needs}
 use Rattle.syntax.proofs.atom.minus_atom.Statement.{statement}
 use Rattle.syntax.proofs.atom.minus_atom.Tie as tie
 
--- src/atom.rt:88:9
 token-at-requires : tie.Need-token-at-requires
 token-at-requires c κs = search needs
 
--- src/atom.rt:91:9
 stopped-requires : tie.Need-stopped-requires
 stopped-requires c κs = search needs
 
--- src/atom.rt:91:9
 returns : tie.Need-returns
 returns c = minus-wrong (c .before .before .before .before .before .before .args .ground) (c .before .before .before .before .before .before .args .text .now) (c .before .before .before .before .before .before .args .at) _ (c .before .before .before .before .token-at .ensures) _ _ (c .before .if1 .taken) (c .stopped .ensures)
 
--- src/atom.rt:93:9
 word-code-requires : tie.Need-word-code-requires
 word-code-requires c κs = search needs
 
--- src/atom.rt:95:9
 stopped-requires-2 : tie.Need-stopped-requires-2
 stopped-requires-2 c κs = search needs
 
--- src/atom.rt:95:9
 returns-2 : tie.Need-returns-2
 returns-2 c = minus-stops (c .before .before .before .before .before .before .before .before .args .ground) (c .before .before .before .before .before .before .before .before .args .text .now) (c .before .before .before .before .before .before .before .before .args .at) _ (c .before .before .before .before .before .before .token-at .ensures) _ _ (c .before .before .before .if1 .left) _ (c .before .before .word-code .ensures) (c .before .if2 .taken) (c .stopped2 .ensures)
 
--- src/atom.rt:97:5
 named-atom-requires : tie.Need-named-atom-requires
 named-atom-requires c κs = (within (c .before .before .before .before .before .before .before .args .ground) (c .before .before .before .before .before .before .before .args .text .now) (c .before .before .before .before .before .before .before .args .at) _ (c .before .before .before .before .before .token-at .ensures), c .before .before .before .before .before .before .before .pre)
 
--- src/atom.rt:84:1
 returns-3 : tie.Need-returns-3
 returns-3 c = minus-goes (c .before .before .before .before .before .before .before .before .args .ground) (c .before .before .before .before .before .before .before .before .args .text .now) (c .before .before .before .before .before .before .before .before .args .at) _ (c .before .before .before .before .before .before .token-at .ensures) _ _ (c .before .before .before .if1 .left) _ (c .before .before .word-code .ensures) (c .before .if2 .left) (c .named-atom .ensures)
 

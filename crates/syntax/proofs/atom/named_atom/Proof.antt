@@ -4,39 +4,30 @@ use borrow.Author.Needs.{needs}
 use Rattle.syntax.proofs.atom.named_atom.Statement.{statement}
 use Rattle.syntax.proofs.atom.named_atom.Tie as tie
 
--- src/atom.rt:67:9
 token-at-requires : tie.Need-token-at-requires
 token-at-requires c κs = search needs
 
--- src/atom.rt:69:13
 empty-requires : tie.Need-empty-requires
 empty-requires c κs = search needs
 
--- src/atom.rt:70:9
 gone-requires : tie.Need-gone-requires
 gone-requires c κs = search needs
 
--- src/atom.rt:70:9
 returns : tie.Need-returns
 returns c = named-bare (c .before .before .before .before .before .before .args .ground) (c .before .before .before .before .before .before .args .text .now) (c .before .before .before .before .before .before .args .at) _ (c .before .before .before .before .token-at .ensures) _ _ _ _ (c .before .before .before .before .before .before .pre .0) (c .before .before .before .before .before .before .pre .1) (c .before .before .if1 .taken) _ (c .before .empty .ensures) (c .gone .ensures)
 
--- src/atom.rt:72:9
 arguments-at-requires : tie.Need-arguments-at-requires
 arguments-at-requires c κs = search needs
 
--- src/atom.rt:77:9
 stopped-requires : tie.Need-stopped-requires
 stopped-requires c κs = search needs
 
--- src/atom.rt:77:9
 returns-2 : tie.Need-returns-2
 returns-2 c = named-stops (c .before .before .before .before .before .before .before .before .before .before .before .args .ground) (c .before .before .before .before .before .before .before .before .before .before .before .args .text .now) (c .before .before .before .before .before .before .before .before .before .before .before .args .at) _ (c .before .before .before .before .before .before .before .before .before .token-at .ensures) (c .before .before .before .before .before .before .before .before .before .before .before .args .negative) (c .before .before .before .before .before .before .before .before .before .before .before .args .name) _ _ (c .before .before .before .before .before .before .before .before .before .before .before .pre .1) (c .before .before .before .before .before .before .before .if1 .left) _ (c .before .before .before .before .before .before .arguments-at .ensures) (c .before .before .if2 .taken) (c .stopped .ensures)
 
--- src/atom.rt:80:5
 gone-requires-2 : tie.Need-gone-requires-2
 gone-requires-2 c κs = search needs
 
--- src/atom.rt:63:1
 returns-3 : tie.Need-returns-3
 returns-3 c = named-goes (c .before .before .before .before .before .before .before .before .before .before .before .args .ground) (c .before .before .before .before .before .before .before .before .before .before .before .args .text .now) (c .before .before .before .before .before .before .before .before .before .before .before .args .at) _ (c .before .before .before .before .before .before .before .before .before .token-at .ensures) _ _ _ _ (c .before .before .before .before .before .before .before .before .before .before .before .pre .1) (c .before .before .before .before .before .before .before .if1 .left) _ (c .before .before .before .before .before .before .arguments-at .ensures) (c .before .before .if2 .left) (c .gone2 .ensures)
 

@@ -3,11 +3,9 @@ use borrow.Author.Needs.{needs}
 use Rattle.syntax.proofs.atom.stopped.Statement.{statement}
 use Rattle.syntax.proofs.atom.stopped.Tie as tie
 
--- src/atom.rt:32:9
 empty-requires : tie.Need-empty-requires
 empty-requires c κs = search needs
 
--- src/atom.rt:29:1
 returns : tie.Need-returns
 returns c = cc
 

@@ -12,55 +12,42 @@ Inv-loop text at headed rule₀ next₀ rule next = Going text at headed (rule�
 abbrev μ-loop : tie.MeasureT-loop
 μ-loop text at headed rule₀ next₀ rule next = 17 - rule .count
 
--- src/body.rt:61:9
 head-only-requires : tie.Need-head-only-requires Inv-loop μ-loop
 head-only-requires c κs = search needs
 
--- src/body.rt:63:5
 loop-holds : tie.Need-loop-holds Inv-loop μ-loop
 loop-holds c = going-start (c .before .before .args .text .now) (c .before .before .args .at) _ _ _ (c .before .before .pre) _ (c .head-only .ensures)
 
--- src/body.rt:65:13
 literal-at-requires : tie.Need-literal-at-requires Inv-loop μ-loop
 literal-at-requires c κs = c .before .before .loop .inv .fits
 
--- src/body.rt:69:13
 stopped-requires : tie.Need-stopped-requires Inv-loop μ-loop
 stopped-requires c κs = search needs
 
--- src/body.rt:69:13
 returns : tie.Need-returns Inv-loop μ-loop
 returns c = started (c .before .before .before .before .before .before .before .before .before .before .before .args .text .now) (c .before .before .before .before .before .before .before .before .before .before .before .args .at) _ _ _ _ _ (c .before .before .before .before .before .before .before .before .before .head-only .ensures) (going-stops _ _ _ _ _ _ _ (c .before .before .before .before .before .before .before .before .loop .inv) _ (c .before .before .before .before .before .literal-at .ensures) (c .before .before .if1 .taken) _ (c .stopped .ensures))
 
--- src/body.rt:73:9
 with-literal-requires : tie.Need-with-literal-requires Inv-loop μ-loop
 with-literal-requires c κs = going-room _ _ _ _ _ _ _ (c .before .before .before .before .before .before .before .before .loop .inv) _ (c .before .before .before .before .before .literal-at .ensures) (c .before .before .if1 .left)
 
--- src/body.rt:74:13
 separator-at-requires : tie.Need-separator-at-requires Inv-loop μ-loop
 separator-at-requires c κs = search needs
 
--- src/body.rt:78:13
 stopped-requires-2 : tie.Need-stopped-requires-2 Inv-loop μ-loop
 stopped-requires-2 c κs = search needs
 
--- src/body.rt:78:13
 returns-2 : tie.Need-returns-2 Inv-loop μ-loop
 returns-2 c = started (c .before .before .before .before .before .before .before .before .before .before .before .before .before .before .before .before .before .before .args .text .now) (c .before .before .before .before .before .before .before .before .before .before .before .before .before .before .before .before .before .before .args .at) _ _ _ _ _ (c .before .before .before .before .before .before .before .before .before .before .before .before .before .before .before .before .head-only .ensures) (going-wrong _ _ _ _ _ _ _ (c .before .before .before .before .before .before .before .before .before .before .before .before .before .before .before .loop .inv) _ (c .before .before .before .before .before .before .before .before .before .before .before .before .literal-at .ensures) (c .before .before .before .before .before .before .before .before .before .if1 .left) _ (c .before .before .before .before .before .before .with-literal .ensures) _ (c .before .before .before .before .before .separator-at .ensures) (c .before .before .if2 .taken) _ (c .stopped2 .ensures))
 
--- src/body.rt:81:13
 gone-requires : tie.Need-gone-requires Inv-loop μ-loop
 gone-requires c κs = search needs
 
--- src/body.rt:81:13
 returns-3 : tie.Need-returns-3 Inv-loop μ-loop
 returns-3 c = started (c .before .before .before .before .before .before .before .before .before .before .before .before .before .before .before .before .before .before .args .text .now) (c .before .before .before .before .before .before .before .before .before .before .before .before .before .before .before .before .before .before .args .at) _ _ _ _ _ (c .before .before .before .before .before .before .before .before .before .before .before .before .before .before .before .before .head-only .ensures) (going-end _ _ _ _ _ _ _ (c .before .before .before .before .before .before .before .before .before .before .before .before .before .before .before .loop .inv) _ (c .before .before .before .before .before .before .before .before .before .before .before .before .literal-at .ensures) (c .before .before .before .before .before .before .before .before .before .if1 .left) _ (c .before .before .before .before .before .before .with-literal .ensures) _ (c .before .before .before .before .before .separator-at .ensures) (c .before .before .if2 .left) (c .before .if3 .taken) _ (c .gone .ensures))
 
--- src/body.rt:63:5
 loop-less : tie.Need-loop-less Inv-loop μ-loop
 loop-less c = going-less _ _ _ _ _ _ _ (c .before .before .before .before .before .before .before .before .before .before .before .before .before .before .loop .inv) _ (c .before .before .before .before .before .before .before .before .before .before .before .literal-at .ensures) (c .before .before .before .before .before .before .before .before .if1 .left) _ (c .before .before .before .before .before .with-literal .ensures)
 
--- src/body.rt:63:5
 loop-again : tie.Need-loop-again Inv-loop μ-loop
 loop-again c = going-on _ _ _ _ _ _ _ (c .before .before .before .before .before .before .before .before .before .before .before .before .before .before .loop .inv) _ (c .before .before .before .before .before .before .before .before .before .before .before .literal-at .ensures) (c .before .before .before .before .before .before .before .before .if1 .left) _ (c .before .before .before .before .before .with-literal .ensures) _ (c .before .before .before .before .separator-at .ensures) (c .before .if2 .left) (c .if3 .left)
 

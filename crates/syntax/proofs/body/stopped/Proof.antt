@@ -3,11 +3,9 @@ use borrow.Author.Needs.{needs}
 use Rattle.syntax.proofs.body.stopped.Statement.{statement}
 use Rattle.syntax.proofs.body.stopped.Tie as tie
 
--- src/body.rt:30:9
 empty-requires : tie.Need-empty-requires
 empty-requires c κs = search needs
 
--- src/body.rt:27:1
 returns : tie.Need-returns
 returns c = cc
 

@@ -5,19 +5,15 @@ use borrow.Author.Needs.{needs}
 use Rattle.syntax.proofs.builtin.compared.Statement.{statement}
 use Rattle.syntax.proofs.builtin.compared.Tie as tie
 
--- src/builtin.rt:139:9
 stopped-requires : tie.Need-stopped-requires
 stopped-requires c κs = search needs
 
--- src/builtin.rt:139:9
 returns : tie.Need-returns
 returns c = refused-compared (c .before .before .before .before .before .before .before .args .text .now) _ _ (c .before .before .if1 .taken) (c .stopped .ensures)
 
--- src/builtin.rt:142:5
 side-at-requires : tie.Need-side-at-requires
 side-at-requires c κs = c .before .before .before .before .before .before .pre (c .before .if1 .left)
 
--- src/builtin.rt:131:1
 returns-2 : tie.Need-returns-2
 returns-2 c = reads-side (c .before .before .if1 .left) (c .side-at .ensures)
 

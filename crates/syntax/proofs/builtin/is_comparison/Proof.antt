@@ -3,11 +3,9 @@ use Rattle.syntax.proofs.Builtins.{no-sign-below, sign-from}
 use Rattle.syntax.proofs.builtin.is_comparison.Statement.{statement}
 use Rattle.syntax.proofs.builtin.is_comparison.Tie as tie
 
--- src/builtin.rt:78:9
 returns : tie.Need-returns
 returns c = no-sign-below _ (c .if1 .taken)
 
--- src/builtin.rt:74:1
 returns-2 : tie.Need-returns-2
 returns-2 c = sign-from _ (c .if1 .left)
 

@@ -5,31 +5,24 @@ use borrow.Author.Needs.{needs}
 use Rattle.syntax.proofs.literal.minus_literal.Statement.{statement}
 use Rattle.syntax.proofs.literal.minus_literal.Tie as tie
 
--- src/literal.rt:82:9
 token-at-requires : tie.Need-token-at-requires
 token-at-requires c κs = search needs
 
--- src/literal.rt:84:31
 negative-number-requires : tie.Need-negative-number-requires
 negative-number-requires c κs = search needs
 
--- src/literal.rt:84:9
 compared-requires : tie.Need-compared-requires
 compared-requires c κs = λ z. reads-fits (c .negative-number .ensures) z
 
--- src/literal.rt:84:9
 returns : tie.Need-returns
 returns c = minus-compared (c .before .before .before .before .before .before .args .text .now) (c .before .before .before .before .before .before .args .at) _ (c .before .before .before .before .token-at .ensures) _ _ (c .before .before .if1 .taken) _ (c .before .negative-number .ensures) (c .compared .ensures)
 
--- src/literal.rt:86:23
 minus-atom-requires : tie.Need-minus-atom-requires
 minus-atom-requires c κs = search needs
 
--- src/literal.rt:86:5
 of-atom-requires : tie.Need-of-atom-requires
 of-atom-requires c κs = search needs
 
--- src/literal.rt:78:1
 returns-2 : tie.Need-returns-2
 returns-2 c = minus-atom (c .before .before .before .before .before .before .args .text .now) (c .before .before .before .before .before .before .args .at) _ (c .before .before .before .before .token-at .ensures) _ _ (c .before .before .if1 .left) _ (c .before .minus-atom .ensures) (c .of-atom .ensures)
 

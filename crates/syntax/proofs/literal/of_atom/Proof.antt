@@ -3,11 +3,9 @@ use borrow.Author.Needs.{needs}
 use Rattle.syntax.proofs.literal.of_atom.Statement.{statement}
 use Rattle.syntax.proofs.literal.of_atom.Tie as tie
 
--- src/literal.rt:40:9
 empty-requires : tie.Need-empty-requires
 empty-requires c κs = search needs
 
--- src/literal.rt:37:1
 returns : tie.Need-returns
 returns c = cc
 

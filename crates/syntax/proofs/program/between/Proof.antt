@@ -4,11 +4,9 @@ use borrow.Author.Needs.{needs}
 use Rattle.syntax.proofs.program.between.Statement.{statement}
 use Rattle.syntax.proofs.program.between.Tie as tie
 
--- src/program.rt:26:9
 returns : tie.Need-returns
 returns c = between-empty _ _ (c .if1 .taken)
 
--- src/program.rt:22:1
 returns-2 : tie.Need-returns-2
 returns-2 c = search needs
 

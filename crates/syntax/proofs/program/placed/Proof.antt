@@ -3,11 +3,9 @@ use borrow.Author.Needs.{needs}
 use Rattle.syntax.proofs.program.placed.Statement.{statement}
 use Rattle.syntax.proofs.program.placed.Tie as tie
 
--- src/program.rt:54:9
 between-requires : tie.Need-between-requires
 between-requires c κs = search needs
 
--- src/program.rt:50:1
 returns : tie.Need-returns
 returns c = cc
 

@@ -4,15 +4,12 @@ use borrow.Author.Needs.{needs}
 use Rattle.syntax.proofs.program.rule_at.Statement.{statement}
 use Rattle.syntax.proofs.program.rule_at.Tie as tie
 
--- src/program.rt:80:9
 start-at-requires : tie.Need-start-at-requires
 start-at-requires c κs = search needs
 
--- src/program.rt:81:5
 rule-from-requires : tie.Need-rule-from-requires
 rule-from-requires c κs = bodied-fits _ _ _ _ _ (c .start-at .ensures)
 
--- src/program.rt:77:1
 returns : tie.Need-returns
 returns c = c .rule-from .ensures _ _ _ (c .before .start-at .ensures)
 

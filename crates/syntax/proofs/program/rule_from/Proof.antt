@@ -4,27 +4,21 @@ use borrow.Author.Needs.{needs}
 use Rattle.syntax.proofs.program.rule_from.Statement.{statement}
 use Rattle.syntax.proofs.program.rule_from.Tie as tie
 
--- src/program.rt:65:13
 body-at-requires : tie.Need-body-at-requires
 body-at-requires c κs = c .before .before .before .before .before .pre (c .if1 .taken)
 
--- src/program.rt:66:9
 placed-requires : tie.Need-placed-requires
 placed-requires c κs = search needs
 
--- src/program.rt:66:9
 returns : tie.Need-returns
 returns c = from-bodied _ _ _ (c .before .before .if1 .taken) _ (c .before .body-at .ensures) (c .placed .ensures)
 
--- src/program.rt:71:15
 head-only-requires : tie.Need-head-only-requires
 head-only-requires c κs = search needs
 
--- src/program.rt:73:5
 placed-requires-2 : tie.Need-placed-requires-2
 placed-requires-2 c κs = search needs
 
--- src/program.rt:57:1
 returns-2 : tie.Need-returns-2
 returns-2 c = from-whole (c .before .before .before .before .before .before .before .args .text .now) _ _ (c .before .before .if1 .left) _ (c .before .head-only .ensures) (c .placed2 .ensures)
 

@@ -5,27 +5,21 @@ use borrow.Author.Needs.{needs}
 use Rattle.syntax.proofs.separator.separator_at.Statement.{statement}
 use Rattle.syntax.proofs.separator.separator_at.Tie as tie
 
--- src/separator.rt:33:9
 token-at-requires : tie.Need-token-at-requires
 token-at-requires c κs = search needs
 
--- src/separator.rt:35:9
 gone-requires : tie.Need-gone-requires
 gone-requires c κs = search needs
 
--- src/separator.rt:35:9
 returns : tie.Need-returns
 returns c = is-comma (c .before .before .before .before .before .args .ground) (c .before .before .before .before .before .args .text .now) (c .before .before .before .before .before .args .at) (c .before .before .before .before .before .args .mark) _ (c .before .before .before .token-at .ensures) _ (c .before .if1 .taken) (c .gone .ensures)
 
--- src/separator.rt:38:9
 gone-requires-2 : tie.Need-gone-requires-2
 gone-requires-2 c κs = search needs
 
--- src/separator.rt:38:9
 returns-2 : tie.Need-returns-2
 returns-2 c = is-last (c .before .before .before .before .before .before .before .args .ground) (c .before .before .before .before .before .before .before .args .text .now) (c .before .before .before .before .before .before .before .args .at) (c .before .before .before .before .before .before .before .args .mark) _ (c .before .before .before .before .before .token-at .ensures) _ (c .before .if2 .taken) (c .gone2 .ensures)
 
--- src/separator.rt:30:1
 returns-3 : tie.Need-returns-3
 returns-3 c = is-neither (c .before .before .before .before .before .before .before .args .ground) (c .before .before .before .before .before .before .before .args .text .now) (c .before .before .before .before .before .before .before .args .at) (c .before .before .before .before .before .before .before .args .mark) _ (c .before .before .before .before .before .token-at .ensures) _ (c .before .before .before .if1 .left) (c .before .if2 .left) refl
 

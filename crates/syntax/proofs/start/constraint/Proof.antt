@@ -4,35 +4,27 @@ use borrow.Author.Needs.{needs}
 use Rattle.syntax.proofs.start.constraint.Statement.{statement}
 use Rattle.syntax.proofs.start.constraint.Tie as tie
 
--- src/start.rt:93:9
 stopped-requires : tie.Need-stopped-requires
 stopped-requires c κs = search needs
 
--- src/start.rt:93:9
 returns : tie.Need-returns
 returns c = λ text at et. if-ground _ _ text at _ et _ (c .before .before .before .pre) (c .before .if1 .taken) (c .stopped .ensures)
 
--- src/start.rt:96:9
 stopped-requires-2 : tie.Need-stopped-requires-2
 stopped-requires-2 c κs = search needs
 
--- src/start.rt:96:9
 returns-2 : tie.Need-returns-2
 returns-2 c = λ text at et. constraint-over _ _ text at _ et _ (c .before .before .before .before .pre) (c .before .before .if1 .left) (c .before .if2 .taken) (c .stopped2 .ensures)
 
--- src/start.rt:98:9
 empty-requires : tie.Need-empty-requires
 empty-requires c κs = search needs
 
--- src/start.rt:99:9
 empty-requires-2 : tie.Need-empty-requires-2
 empty-requires-2 c κs = search needs
 
--- src/start.rt:100:5
 gone-requires : tie.Need-gone-requires
 gone-requires c κs = search needs
 
--- src/start.rt:87:1
 returns-3 : tie.Need-returns-3
 returns-3 c = λ text at et. constraint-opens _ _ text at _ et _ (c .before .before .before .before .before .before .pre) (c .before .before .before .before .if1 .left) (c .before .before .before .if2 .left) _ (c .before .before .empty .ensures) _ (c .before .empty2 .ensures) (c .gone .ensures)
 

@@ -6,11 +6,9 @@ use borrow.Author.Needs.{needs}
 use Rattle.syntax.proofs.start.ended.Statement.{statement}
 use Rattle.syntax.proofs.start.ended.Tie as tie
 
--- src/start.rt:56:9
 stopped-requires : tie.Need-stopped-requires
 stopped-requires c κs = search needs
 
--- src/start.rt:53:1
 returns : tie.Need-returns
 returns c = ap {A = StartRead} (λ s. record { progress = s .progress; ended = true; bodied = s .bodied; headed = s .headed; head = s .head; variables = s .variables; start = s .start }) (c .stopped .ensures)
 

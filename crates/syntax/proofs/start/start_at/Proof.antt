@@ -5,47 +5,36 @@ use borrow.Author.Needs.{needs}
 use Rattle.syntax.proofs.start.start_at.Statement.{statement}
 use Rattle.syntax.proofs.start.start_at.Tie as tie
 
--- src/start.rt:133:9
 token-at-requires : tie.Need-token-at-requires
 token-at-requires c κs = search needs
 
--- src/start.rt:135:9
 ended-requires : tie.Need-ended-requires
 ended-requires c κs = search needs
 
--- src/start.rt:135:9
 returns : tie.Need-returns
 returns c = start-ended (c .before .before .before .before .before .args .ground) (c .before .before .before .before .before .args .over) (c .before .before .before .before .before .args .text .now) (c .before .before .before .before .before .args .at) _ (c .before .before .before .token-at .ensures) _ (c .before .if1 .taken) (c .ended .ensures)
 
--- src/start.rt:138:9
 constraint-requires : tie.Need-constraint-requires
 constraint-requires c κs = c .if2 .taken
 
--- src/start.rt:138:9
 returns-2 : tie.Need-returns-2
 returns-2 c = c .constraint .ensures (c .before .before .before .before .before .before .before .args .text .now) (c .before .before .before .before .before .before .before .args .at) (c .before .before .before .before .before .token-at .ensures)
 
--- src/start.rt:140:9
 empty-requires : tie.Need-empty-requires
 empty-requires c κs = search needs
 
--- src/start.rt:141:9
 atom-at-requires : tie.Need-atom-at-requires
 atom-at-requires c κs = none-fit _ (c .empty .ensures)
 
--- src/start.rt:145:9
 stopped-requires : tie.Need-stopped-requires
 stopped-requires c κs = search needs
 
--- src/start.rt:145:9
 returns-3 : tie.Need-returns-3
 returns-3 c = head-stops (c .before .before .before .before .before .before .before .before .before .before .before .before .before .args .ground) (c .before .before .before .before .before .before .before .before .before .before .before .before .before .args .over) (c .before .before .before .before .before .before .before .before .before .before .before .before .before .args .text .now) (c .before .before .before .before .before .before .before .before .before .before .before .before .before .args .at) _ (c .before .before .before .before .before .before .before .before .before .before .before .token-at .ensures) _ (c .before .before .before .before .before .before .before .if2 .left) (c .before .before .before .before .before .before .before .before .before .if1 .left) _ (c .before .before .before .before .before .before .empty .ensures) _ (c .before .before .before .before .before .atom-at .ensures) (c .before .before .if3 .taken) (c .stopped .ensures)
 
--- src/start.rt:150:5
 headed-requires : tie.Need-headed-requires
 headed-requires c κs = reads-fits (c .before .before .before .before .before .before .atom-at .ensures) (c .before .before .before .if3 .left)
 
--- src/start.rt:130:1
 returns-4 : tie.Need-returns-4
 returns-4 c = head-goes (c .before .before .before .before .before .before .before .before .before .before .before .before .before .before .before .args .ground) (c .before .before .before .before .before .before .before .before .before .before .before .before .before .before .before .args .over) (c .before .before .before .before .before .before .before .before .before .before .before .before .before .before .before .args .text .now) (c .before .before .before .before .before .before .before .before .before .before .before .before .before .before .before .args .at) _ (c .before .before .before .before .before .before .before .before .before .before .before .before .before .token-at .ensures) _ (c .before .before .before .before .before .before .before .before .before .if2 .left) (c .before .before .before .before .before .before .before .before .before .before .before .if1 .left) _ (c .before .before .before .before .before .before .before .before .empty .ensures) _ (c .before .before .before .before .before .before .before .atom-at .ensures) (c .before .before .before .before .if3 .left) (reads-fits (c .before .before .before .before .before .before .before .atom-at .ensures) (c .before .before .before .before .if3 .left)) (c .headed .ensures)
 

@@ -3,15 +3,12 @@ use borrow.Author.Needs.{needs}
 use Rattle.syntax.proofs.start.stopped.Statement.{statement}
 use Rattle.syntax.proofs.start.stopped.Tie as tie
 
--- src/start.rt:36:9
 empty-requires : tie.Need-empty-requires
 empty-requires c κs = search needs
 
--- src/start.rt:37:9
 empty-requires-2 : tie.Need-empty-requires-2
 empty-requires-2 c κs = search needs
 
--- src/start.rt:33:1
 returns : tie.Need-returns
 returns c = cc
 

@@ -5,23 +5,18 @@ use borrow.Author.Needs.{needs}
 use Rattle.syntax.proofs.term.negative_number.Statement.{statement}
 use Rattle.syntax.proofs.term.negative_number.Tie as tie
 
--- src/term.rt:145:9
 token-at-requires : tie.Need-token-at-requires
 token-at-requires c κs = search needs
 
--- src/term.rt:147:9
 number-term-requires : tie.Need-number-term-requires
 number-term-requires c κs = search needs
 
--- src/term.rt:147:9
 returns : tie.Need-returns
 returns c = negative-number (c .before .before .before .before .before .args .ground) false (c .before .before .before .before .before .args .text .now) (c .before .before .before .before .before .args .at) _ (c .before .before .before .token-at .ensures) _ (c .before .before .before .before .before .pre) _ (c .before .if1 .taken) (c .number-term .ensures)
 
--- src/term.rt:149:5
 stopped-requires : tie.Need-stopped-requires
 stopped-requires c κs = search needs
 
--- src/term.rt:141:1
 returns-2 : tie.Need-returns-2
 returns-2 c = negative-wrong (c .before .before .before .before .before .args .ground) false (c .before .before .before .before .before .args .text .now) (c .before .before .before .before .before .args .at) _ (c .before .before .before .token-at .ensures) _ (c .before .before .before .before .before .pre) _ (c .before .if1 .left) (c .stopped .ensures)
 

@@ -5,39 +5,30 @@ use borrow.Author.Needs.{needs}
 use Rattle.syntax.proofs.term.number_term.Statement.{statement}
 use Rattle.syntax.proofs.term.number_term.Tie as tie
 
--- src/term.rt:90:24
 part-requires : tie.Need-part-requires
 part-requires c κs = search needs
 
--- src/term.rt:90:9
 value-requires : tie.Need-value-requires
 value-requires c κs = search needs
 
--- src/term.rt:92:9
 stopped-requires : tie.Need-stopped-requires
 stopped-requires c κs = search needs
 
--- src/term.rt:92:9
 returns : tie.Need-returns
 returns c = c .stopped .ensures ∙ sym (number-big (c .before .before .before .before .before .before .args .text .now) (c .before .before .before .before .before .before .args .token) (c .before .before .before .before .before .before .args .negative) (c .before .before .before .before .before .before .args .over) (c .before .before .before .before .before .before .args .variables) _ (c .before .before .before .part .ensures) _ (c .before .before .value .ensures) (c .before .if1 .taken))
 
--- src/term.rt:95:9
 stopped-requires-2 : tie.Need-stopped-requires-2
 stopped-requires-2 c κs = search needs
 
--- src/term.rt:95:9
 returns-2 : tie.Need-returns-2
 returns-2 c = c .stopped2 .ensures ∙ sym (number-over (c .before .before .before .before .before .before .before .args .text .now) (c .before .before .before .before .before .before .before .args .token) (c .before .before .before .before .before .before .before .args .negative) (c .before .before .before .before .before .before .before .args .over) (c .before .before .before .before .before .before .before .args .variables) _ (c .before .before .before .before .part .ensures) _ (c .before .before .before .value .ensures) (c .before .before .if1 .left) (c .before .if2 .taken))
 
--- src/term.rt:97:10
 term-of-requires : tie.Need-term-of-requires
 term-of-requires c κs = search needs
 
--- src/term.rt:97:5
 gone-requires : tie.Need-gone-requires
 gone-requires c κs = search needs
 
--- src/term.rt:86:1
 returns-3 : tie.Need-returns-3
 returns-3 c = c .gone .ensures ∙ sym (number-small (c .before .before .before .before .before .before .before .before .args .text .now) (c .before .before .before .before .before .before .before .before .args .token) (c .before .before .before .before .before .before .before .before .args .negative) (c .before .before .before .before .before .before .before .before .args .over) (c .before .before .before .before .before .before .before .before .args .variables) _ (c .before .before .before .before .before .part .ensures) _ (c .before .before .before .before .value .ensures) (c .before .before .before .if1 .left) (c .before .before .if2 .left) _ (c .before .term-of .ensures))
 

@@ -4,87 +4,66 @@ use borrow.Author.Needs.{needs}
 use Rattle.syntax.proofs.term.term_at.Statement.{statement}
 use Rattle.syntax.proofs.term.term_at.Tie as tie
 
--- src/term.rt:190:9
 token-at-requires : tie.Need-token-at-requires
 token-at-requires c κs = search needs
 
--- src/term.rt:193:13
 word-code-requires : tie.Need-word-code-requires
 word-code-requires c κs = search needs
 
--- src/term.rt:195:13
 stopped-requires : tie.Need-stopped-requires
 stopped-requires c κs = search needs
 
--- src/term.rt:195:13
 returns : tie.Need-returns
 returns c = name-stops (c .before .before .before .before .before .before .before .before .args .ground) (c .before .before .before .before .before .before .before .before .args .over) (c .before .before .before .before .before .before .before .before .args .text .now) (c .before .before .before .before .before .before .before .before .args .at) _ (c .before .before .before .before .before .before .token-at .ensures) _ (c .before .before .before .before .before .before .before .before .pre) _ (c .before .before .before .if1 .taken) _ (c .before .before .word-code .ensures) (c .before .if2 .taken) (c .stopped .ensures)
 
--- src/term.rt:197:21
 term-of-requires : tie.Need-term-of-requires
 term-of-requires c κs = search needs
 
--- src/term.rt:197:9
 gone-requires : tie.Need-gone-requires
 gone-requires c κs = search needs
 
--- src/term.rt:197:9
 returns-2 : tie.Need-returns-2
 returns-2 c = name-goes (c .before .before .before .before .before .before .before .before .before .args .ground) (c .before .before .before .before .before .before .before .before .before .args .over) (c .before .before .before .before .before .before .before .before .before .args .text .now) (c .before .before .before .before .before .before .before .before .before .args .at) _ (c .before .before .before .before .before .before .before .token-at .ensures) _ (c .before .before .before .before .before .before .before .before .before .pre) _ (c .before .before .before .before .if1 .taken) _ (c .before .before .before .word-code .ensures) (c .before .before .if2 .left) _ (c .before .term-of .ensures) (c .gone .ensures)
 
--- src/term.rt:200:9
 number-term-requires : tie.Need-number-term-requires
 number-term-requires c κs = search needs
 
--- src/term.rt:200:9
 returns-3 : tie.Need-returns-3
 returns-3 c = term-number (c .before .before .before .before .before .before .before .before .args .ground) (c .before .before .before .before .before .before .before .before .args .over) (c .before .before .before .before .before .before .before .before .args .text .now) (c .before .before .before .before .before .before .before .before .args .at) _ (c .before .before .before .before .before .before .token-at .ensures) _ (c .before .before .before .before .before .before .before .before .pre) _ (c .before .if3 .taken) (c .number-term .ensures)
 
--- src/term.rt:204:13
 stopped-requires-2 : tie.Need-stopped-requires-2
 stopped-requires-2 c κs = search needs
 
--- src/term.rt:204:13
 returns-4 : tie.Need-returns-4
 returns-4 c = minus-over (c .before .before .before .before .before .before .before .before .before .before .before .args .ground) (c .before .before .before .before .before .before .before .before .before .before .before .args .over) (c .before .before .before .before .before .before .before .before .before .before .before .args .text .now) (c .before .before .before .before .before .before .before .before .before .before .before .args .at) _ (c .before .before .before .before .before .before .before .before .before .token-at .ensures) _ (c .before .before .before .before .before .before .before .before .before .before .before .pre) _ (c .before .before .if4 .taken) (c .before .if5 .taken) (c .stopped2 .ensures)
 
--- src/term.rt:206:9
 negative-number-requires : tie.Need-negative-number-requires
 negative-number-requires c κs = search needs
 
--- src/term.rt:206:9
 returns-5 : tie.Need-returns-5
 returns-5 c = minus-goes (c .before .before .before .before .before .before .before .before .before .before .before .args .ground) (c .before .before .before .before .before .before .before .before .before .before .before .args .over) (c .before .before .before .before .before .before .before .before .before .before .before .args .text .now) (c .before .before .before .before .before .before .before .before .before .before .before .args .at) _ (c .before .before .before .before .before .before .before .before .before .token-at .ensures) _ (c .before .before .before .before .before .before .before .before .before .before .before .pre) _ (c .before .before .if4 .taken) (c .before .if5 .left) (c .negative-number .ensures)
 
--- src/term.rt:209:9
 stopped-requires-3 : tie.Need-stopped-requires-3
 stopped-requires-3 c κs = search needs
 
--- src/term.rt:209:9
 returns-6 : tie.Need-returns-6
 returns-6 c = ground-wrong (c .before .before .before .before .before .before .before .before .before .before .before .args .ground) (c .before .before .before .before .before .before .before .before .before .before .before .args .over) (c .before .before .before .before .before .before .before .before .before .before .before .args .text .now) (c .before .before .before .before .before .before .before .before .before .before .before .args .at) _ (c .before .before .before .before .before .before .before .before .before .token-at .ensures) _ (c .before .before .before .before .before .before .before .before .before .before .before .pre) _ (c .before .before .before .before .before .before .if1 .left) (c .before .before .before .before .if3 .left) (c .before .before .if4 .left) (c .before .if6 .taken) (c .stopped3 .ensures)
 
--- src/term.rt:212:9
 variable-term-requires : tie.Need-variable-term-requires
 variable-term-requires c κs = search needs
 
--- src/term.rt:212:9
 returns-7 : tie.Need-returns-7
 returns-7 c = c .variable-term .ensures (c .before .before .before .before .before .before .before .before .before .before .before .before .before .args .ground) (c .before .before .before .before .before .before .before .before .before .before .before .before .before .args .at) (c .before .before .before .if6 .left) (c .before .before .before .before .before .before .before .before .before .before .before .token-at .ensures) (c .before .if7 .taken)
 
--- src/term.rt:215:9
 anonymous-term-requires : tie.Need-anonymous-term-requires
 anonymous-term-requires c κs = search needs
 
--- src/term.rt:215:9
 returns-8 : tie.Need-returns-8
 returns-8 c = c .anonymous-term .ensures (c .before .before .before .before .before .before .before .before .before .before .before .before .before .before .before .args .ground) (c .before .before .before .before .before .before .before .before .before .before .before .before .before .before .before .args .text .now) (c .before .before .before .before .before .before .before .before .before .before .before .before .before .before .before .args .at) (c .before .before .before .before .before .if6 .left) (c .before .before .before .before .before .before .before .before .before .before .before .before .before .token-at .ensures) (c .before .if8 .taken)
 
--- src/term.rt:217:5
 stopped-requires-4 : tie.Need-stopped-requires-4
 stopped-requires-4 c κs = search needs
 
--- src/term.rt:186:1
 returns-9 : tie.Need-returns-9
 returns-9 c = free-wrong (c .before .before .before .before .before .before .before .before .before .before .before .before .before .before .before .args .ground) (c .before .before .before .before .before .before .before .before .before .before .before .before .before .before .before .args .over) (c .before .before .before .before .before .before .before .before .before .before .before .before .before .before .before .args .text .now) (c .before .before .before .before .before .before .before .before .before .before .before .before .before .before .before .args .at) _ (c .before .before .before .before .before .before .before .before .before .before .before .before .before .token-at .ensures) _ (c .before .before .before .before .before .before .before .before .before .before .before .before .before .before .before .pre) _ (c .before .before .before .before .before .before .before .before .before .before .if1 .left) (c .before .before .before .before .before .before .before .before .if3 .left) (c .before .before .before .before .before .before .if4 .left) (c .before .before .before .before .before .if6 .left) (c .before .before .before .if7 .left) (c .before .if8 .left) (c .stopped4 .ensures)
 

@@ -5,55 +5,42 @@ use borrow.Author.Needs.{needs}
 use Rattle.syntax.proofs.term.variable_term.Statement.{statement}
 use Rattle.syntax.proofs.term.variable_term.Tie as tie
 
--- src/term.rt:129:9
 word-code-requires : tie.Need-word-code-requires
 word-code-requires c κs = search needs
 
--- src/term.rt:131:9
 stopped-requires : tie.Need-stopped-requires
 stopped-requires c κs = search needs
 
--- src/term.rt:131:9
 returns : tie.Need-returns
 returns c = in-program (c .before .before .before .before .before .args .text .now) _ _ _ _ 2 (λ at et ek. variable-stops (c .before .before .before .before .before .args .over) (c .before .before .before .before .before .args .text .now) at _ et _ (c .before .before .before .before .before .pre) _ ek _ (c .before .before .word-code .ensures) (c .before .if1 .taken) (c .stopped .ensures))
 
--- src/term.rt:133:9
 variable-number-requires : tie.Need-variable-number-requires
 variable-number-requires c κs = search needs
 
--- src/term.rt:136:13
 term-of-requires : tie.Need-term-of-requires
 term-of-requires c κs = search needs
 
--- src/term.rt:135:9
 gone-requires : tie.Need-gone-requires
 gone-requires c κs = search needs
 
--- src/term.rt:135:9
 returns-2 : tie.Need-returns-2
 returns-2 c = in-program (c .before .before .before .before .before .before .before .before .before .args .text .now) _ _ _ _ 2 (λ at et ek. variable-known (c .before .before .before .before .before .before .before .before .before .args .over) (c .before .before .before .before .before .before .before .before .before .args .text .now) at _ et _ (c .before .before .before .before .before .before .before .before .before .pre) _ ek _ (c .before .before .before .before .variable-number .ensures) _ (c .before .before .before .before .before .before .word-code .ensures) (c .before .before .before .before .before .if1 .left) _ (c .before .term-of .ensures) (c .before .before .if2 .taken) (c .gone .ensures))
 
--- src/term.rt:142:9
 stopped-requires-2 : tie.Need-stopped-requires-2
 stopped-requires-2 c κs = search needs
 
--- src/term.rt:142:9
 returns-3 : tie.Need-returns-3
 returns-3 c = in-program (c .before .before .before .before .before .before .before .before .before .args .text .now) _ _ _ _ 2 (λ at et ek. variable-many (c .before .before .before .before .before .before .before .before .before .args .over) (c .before .before .before .before .before .before .before .before .before .args .text .now) at _ et _ (c .before .before .before .before .before .before .before .before .before .pre) _ ek _ (c .before .before .before .before .variable-number .ensures) (c .before .before .if2 .left) (c .before .if3 .taken) (c .stopped2 .ensures))
 
--- src/term.rt:144:9
 with-place-requires : tie.Need-with-place-requires
 with-place-requires c κs = search needs
 
--- src/term.rt:146:9
 term-of-requires-2 : tie.Need-term-of-requires-2
 term-of-requires-2 c κs = search needs
 
--- src/term.rt:145:5
 gone-requires-2 : tie.Need-gone-requires-2
 gone-requires-2 c κs = search needs
 
--- src/term.rt:124:1
 returns-4 : tie.Need-returns-4
 returns-4 c = in-program (c .before .before .before .before .before .before .before .before .before .before .before .args .text .now) _ _ _ _ 2 (λ at et ek. variable-new (c .before .before .before .before .before .before .before .before .before .before .before .args .over) (c .before .before .before .before .before .before .before .before .before .before .before .args .text .now) at _ et _ (c .before .before .before .before .before .before .before .before .before .before .before .pre) _ ek _ (c .before .before .before .before .before .before .variable-number .ensures) _ (c .before .before .before .before .before .before .before .before .word-code .ensures) (c .before .before .before .before .before .before .before .if1 .left) _ (c .before .term-of2 .ensures) (c .before .before .before .before .if2 .left) (λ h. omega arith) _ (c .before .before .with-place .ensures) (c .gone2 .ensures))
 

@@ -4,17 +4,14 @@ use Rattle.syntax.specs.Terms.{wordCode}
 use Rattle.syntax.proofs.term.word_code.Statement.{statement}
 use Rattle.syntax.proofs.term.word_code.Tie as tie
 
--- src/term.rt:90:9
 returns : tie.Need-returns
 unfolding wordCode
 returns c = rw (lt-ltb 64 _ (c .if1 .taken))
 
--- src/term.rt:93:9
 returns-2 : tie.Need-returns-2
 unfolding wordCode
 returns-2 c = rw (le-ltb 64 _ (c .before .if1 .left), c .if2 .taken)
 
--- src/term.rt:86:1
 returns-3 : tie.Need-returns-3
 unfolding wordCode
 returns-3 c = rw (le-ltb 64 _ (c .before .if1 .left), c .if2 .left)

@@ -5,19 +5,15 @@ use borrow.Author.Needs.{needs}
 use Rattle.syntax.proofs.token.token_at.Statement.{statement}
 use Rattle.syntax.proofs.token.token_at.Tie as tie
 
--- src/token.rt:26:9
 next-token-requires : tie.Need-next-token-requires
 next-token-requires c κs = search needs
 
--- src/token.rt:30:15
 kind-number-requires : tie.Need-kind-number-requires
 kind-number-requires c κs = search needs
 
--- src/token.rt:32:15
 add-t9 : tie.Need-add-t9
 add-t9 c = omega (arith, read-inside (c .before .before .before .before .before .args .ground) (c .before .before .before .before .before .args .text .now) (c .before .before .before .before .before .args .at) _ (c .before .before .before .next-token .ensures))
 
--- src/token.rt:23:1
 returns : tie.Need-returns
 returns c = as-read (c .before .before .before .before .before .args .ground) (c .before .before .before .before .before .args .text .now) (c .before .before .before .before .before .args .at) _ (c .before .before .before .next-token .ensures) _ (c .before .kind-number .ensures)
 

@@ -18,47 +18,36 @@ Inv-loop text place variables i₀ i = (i ≤ variables .count) × (first-among 
 abbrev μ-loop : tie.MeasureT-loop
 μ-loop text place variables i₀ i = variables .count - i
 
--- src/variable.rt:20:5
 loop-holds : tie.Need-loop-holds Inv-loop μ-loop
 loop-holds c = (omega arith, omega arith)
 
--- src/variable.rt:21:19
 mul-met : tie.Need-mul-met Inv-loop μ-loop
 mul-met c = search needs
 
--- src/variable.rt:21:19
 element-copy-out-met : tie.Need-element-copy-out-met Inv-loop μ-loop
 element-copy-out-met c = search needs
 
--- src/variable.rt:22:23
 part-requires : tie.Need-part-requires Inv-loop μ-loop
 part-requires c κs = search needs
 
--- src/variable.rt:22:42
 part-requires-2 : tie.Need-part-requires-2 Inv-loop μ-loop
 part-requires-2 c κs = search needs
 
--- src/variable.rt:22:12
 same-bytes-requires : tie.Need-same-bytes-requires Inv-loop μ-loop
 same-bytes-requires c κs = search needs
 
--- src/variable.rt:23:13
 returns : tie.Need-returns Inv-loop μ-loop
 returns c = omega (arith, c .before .before .before .before .before .before .loop .inv .1, among-here (c .before .before .before .before .before .before .before .before .args .text .now) _ (c .before .before .before .before .before .before .before .before .args .t3) (c .before .before .before .before .before .before .before .before .pre) (c .before .before .before .before .before .before .loop .i) (omega arith) _ _ (c .before .before .before .part .ensures) (c .before .before .part2 .ensures) _ (c .before .same-bytes .ensures) (c .if1 .taken))
 
--- src/variable.rt:25:9
 add-i : tie.Need-add-i Inv-loop μ-loop
 add-i c = search needs
 
--- src/variable.rt:20:5
 loop-less : tie.Need-loop-less Inv-loop μ-loop
 loop-less c = search needs
 
--- src/variable.rt:20:5
 loop-again : tie.Need-loop-again Inv-loop μ-loop
 loop-again c = (omega arith, omega (arith, c .before .before .before .before .before .before .loop .inv .1, among-on (c .before .before .before .before .before .before .before .before .args .text .now) _ (c .before .before .before .before .before .before .before .before .args .t3) (c .before .before .before .before .before .before .before .before .pre) (c .before .before .before .before .before .before .loop .i) (omega arith) _ _ (c .before .before .before .part .ensures) (c .before .before .part2 .ensures) _ (c .before .same-bytes .ensures) (c .if1 .left)))
 
--- src/variable.rt:15:1
 returns-2 : tie.Need-returns-2 Inv-loop μ-loop
 returns-2 c = omega (arith, c .before .loop .inv .1, among-end (c .before .before .before .args .text .now) (part (c .before .before .before .args .text .now) (c .before .before .before .args .place)) (c .before .before .before .args .t3) (c .before .before .before .pre) (c .before .loop .i) (omega arith))
 
