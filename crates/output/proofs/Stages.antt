@@ -46,8 +46,8 @@ module _ (text : Bytes) (line : Place) (inside : line .start + line .len ≤ len
     facts-whole e = go g
       where
         go : ReadsLine bytes r → ReadsFacts text line r
-        go (ReadsLine.whole c fs n h) = ReadsFacts.whole c fs n (read fs (rw bytes-part at h))
-        go (ReadsLine.refuses c h) = absurd (omega arith)
+        go (ReadsLine.whole c p fs n h) = ReadsFacts.whole c fs n (read fs (rw bytes-part at h))
+        go (ReadsLine.refuses c n h) = absurd (omega arith)
 
     module _ (e : r .code ≡ 0 → ⊥) where
       -- the fault lies on the line, and so in the output
@@ -55,15 +55,15 @@ module _ (text : Bytes) (line : Place) (inside : line .start + line .len ≤ len
       fault-inside = go g
         where
           go : ReadsLine bytes r → line .start + r .place .start + r .place .len ≤ length text
-          go (ReadsLine.whole c fs n h) = absurd (e c)
-          go (ReadsLine.refuses c h) = omega (arith, refused-inside true bytes (r .code) (r .place) h, line-length)
+          go (ReadsLine.whole c p fs n h) = absurd (e c)
+          go (ReadsLine.refuses c n h) = omega (arith, refused-inside true bytes (r .code) (r .place) h, line-length)
 
       pub facts-refused : ReadsFacts text line (record { code = r .code; place = on-line line (r .place); count = 0 })
       facts-refused = go g
         where
           go : ReadsLine bytes r → ReadsFacts text line (record { code = r .code; place = on-line line (r .place); count = 0 })
-          go (ReadsLine.whole c fs n h) = absurd (e c)
-          go (ReadsLine.refuses c h) = ReadsFacts.refuses c (fault (r .code) (r .place) (rw bytes-part at h))
+          go (ReadsLine.whole c p fs n h) = absurd (e c)
+          go (ReadsLine.refuses c n h) = ReadsFacts.refuses c (fault (r .code) (r .place) (rw bytes-part at h))
 
 -- ---- the lines behind the report
 

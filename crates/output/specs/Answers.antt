@@ -47,10 +47,10 @@ ReadsOutput text r = GivenBy (OutputStage text) r
 
 -- ---- its parts
 
--- a facts line by itself: some facts, which are so many; or a refusal at its place on the line
+-- a facts line by itself: some facts, which are so many; or a refusal at its place on the line. Each line has one answer (`line-unique`).
 pub data ReadsLine (text : Bytes) (r : FactsRead) : Type 0 where
-  whole : r .code ≡ 0 → (fs : Program true) → count fs ≡ r .count → ReadAs true text (tree fs) → ReadsLine text r
-  refuses : 2 ≤ r .code → ReadAs true text (refusal (r .code) (r .place)) → ReadsLine text r
+  whole : r .code ≡ 0 → r .place ≡ noPlace → (fs : Program true) → count fs ≡ r .count → ReadAs true text (tree fs) → ReadsLine text r
+  refuses : 2 ≤ r .code → r .count ≡ 0 → ReadAs true text (refusal (r .code) (r .place)) → ReadsLine text r
 
 -- the facts line of an output: the number of its facts, or a refusal at its place in the output
 pub data ReadsFacts (text : Bytes) (line : Place) (r : FactsRead) : Type 0 where

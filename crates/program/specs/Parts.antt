@@ -10,7 +10,7 @@ use Rattle.safety.specs.Scanned.{meant}
 use Rattle.safety.specs.Unbound.{FirstUnbound}
 use Rattle.program.specs.declared.look.Looked.{Looked}
 
--- some rule by value has been read so far, and where one was read, its first unbound variable is this
+-- what has been read, with some rule by value beside it; where that is a rule, its first unbound variable is this
 pub record Looks (over : Bool) (text : Bytes) (at : ℕ) (l : Looked) : Type 0 where
   pub rule : value.Rule
   pub reads : ReadsRule false over text at (record { progress = l .progress; ended = l .ended; rule = rule })
