@@ -8,7 +8,7 @@ use filling::rules::LITERALS;
 use filling::rules::RULES;
 use filling::rules::fill_rules;
 use lexis::Place;
-use syntax::program::MOST_FACTS;
+use syntax::MOST_FACTS;
 use tables::FACT;
 
 // The numbers of the facts' rows.

@@ -4,7 +4,7 @@ ghost use mathlib.Core.Path.{_≡_};
 ghost use Rattle.output.specs.Places.{fact-place};
 use lexis::Place;
 use output::places::fact_places;
-use syntax::program::MOST_FACTS;
+use syntax::MOST_FACTS;
 
 // The place of a number.
 fn wide(n: u32) -> usize

@@ -8,7 +8,7 @@ ghost use Rattle.factrows.specs.Filled.{Fillable, Filled};
 use lexis::Place;
 use names::text::bytes_at;
 use rulerows::fact::put_fact;
-use syntax::program::MOST_FACTS;
+use syntax::MOST_FACTS;
 use syntax::start::start_at;
 
 // The facts of a line of the output, each in its row, with the predicates' numbers in a table of their own: how many facts there are.

@@ -64,7 +64,7 @@ unfolding blank gap behind-not is-not run-together is-word is-word-symbol
 same-blank t u us (inl h) = rw (h, no-gap t u us h)
 same-blank t u us (inr (b, e, f)) = rw (e, f)
 
-pub written-spaced : (ts : List Token) → Apart ts → written ts ≡ spaced ts
+written-spaced : (ts : List Token) → Apart ts → written ts ≡ spaced ts
 unfolding written spaced blank
 written-spaced [] h = refl
 written-spaced (t ∷ []) h = rw (last-gap t)

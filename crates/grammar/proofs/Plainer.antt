@@ -64,7 +64,8 @@ all-join : (P : Token → Type 0) (l m : List Token) → All P l → All P m →
 all-join P [] m g h = h
 all-join P (t ∷ l) m g h = (g .0, all-join P l m (g .1) h)
 
-count-each : {A : Type 0} (f : A → A) (xs : Sequence A) → count (each f xs) ≡ count xs
+-- as many behind as before
+pub count-each : {A : Type 0} (f : A → A) (xs : Sequence A) → count (each f xs) ≡ count xs
 unfolding count each
 count-each f empty = refl
 count-each f (xs then x) = ap suc (count-each f xs)

@@ -1,7 +1,7 @@
 // The facts of a facts line, one after the other.
 ghost use Rattle.output.specs.Answers.{ReadsLine};
 use lexis::Place;
-use syntax::program::MOST_FACTS;
+use syntax::MOST_FACTS;
 use syntax::start::start_at;
 
 // How many facts there are; or the refusal and its place.

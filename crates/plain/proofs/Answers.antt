@@ -11,8 +11,8 @@ use Rattle.meaning.proofs.Sets.{nothing-long}
 use Rattle.grammar.specs.Trees.{Program}
 use Rattle.rule.specs.Build.{noPlace}
 use Rattle.plainform.specs.PlainBytes.{plain-bytes}
-use Rattle.plainrule.specs.Put.{Put}
-use Rattle.plainrule.proofs.Puts.{put-length}
+use Rattle.plaintokens.specs.Put.{Put}
+use Rattle.plaintokens.proofs.Puts.{put-length}
 use Rattle.plain.specs.Answer.{answer, WritesProgram, short, writes}
 
 -- bytes that fill a part are what stands there

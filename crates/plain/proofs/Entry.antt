@@ -4,9 +4,9 @@ use Rattle.meaning.specs.Rules.{Bytes}
 use Rattle.program.specs.declared.ProgramRead.{ProgramRead}
 use Rattle.program.specs.Answer.{ReadsProgram}
 use Rattle.program.proofs.Taken.{read-is-read, taken-where-zero, refused-elsewhere}
+use Rattle.plaintokens.specs.Promise.{Readable}
 use Rattle.plain.specs.declared.Written.{Written}
-use Rattle.plain.specs.Answer.{answer, Writes, refuses, takes}
-use Rattle.plain.specs.Rules.{Readable, AnswersPlain}
+use Rattle.plain.specs.Answer.{answer, AnswersPlain, Writes, refuses, takes}
 
 module _ (text : Bytes) (r : ProgramRead) (g : ReadsProgram text r) where
   pub passes-on : (r .code ≡ 0 → ⊥) → (buffer : Bytes) → Writes text buffer (answer (r .code) (r .place) 0) buffer

@@ -1,4 +1,3 @@
 pub mod Unique
-pub mod Loop
 pub mod Answers
 pub mod Entry

@@ -10,7 +10,7 @@ use Rattle.rule.specs.Build.{noPlace}
 use Rattle.stages.specs.Parts.{Part}
 use Rattle.stages.specs.Stage.{on, stop}
 use Rattle.program.specs.Stage.{ProgramStage}
-use Rattle.plainform.specs.PlainBytes.{plain-bytes}
+use Rattle.plainform.specs.PlainBytes.{ReadAs, plain-bytes}
 use Rattle.plain.specs.declared.Written.{Written}
 
 -- the fields of an answer: a number of refusal and its part, or 0 and the length of the plain form
@@ -26,6 +26,10 @@ pub data WritesProgram (c : Program false) (buffer : Bytes) : Written → Bytes 
   -- 9, empty at the program's start, exactly where the buffer is shorter than the plain form; every byte is as it was
   short : length buffer < length (plain-bytes c) → WritesProgram c buffer (answer 9 noPlace 0) buffer
   writes : length (plain-bytes c) ≤ length buffer → WritesProgram c buffer (answer 0 noPlace (length (plain-bytes c))) (filled buffer c)
+
+-- a text that is read
+abbrev pub AnswersPlain : (text buffer : Bytes) → Written → Bytes → Type 0
+AnswersPlain text buffer a left = (c : Program false) → ReadAs text c → WritesProgram c buffer a left
 
 -- any text
 pub data Writes (text buffer : Bytes) : Written → Bytes → Type 0 where

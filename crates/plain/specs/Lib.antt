@@ -1,3 +1,2 @@
 -- In the order to read them in.
 pub mod Answer
-pub mod Rules

@@ -1,11 +1,9 @@
 // A program's plain form, written into a lent buffer.
-ghost use Rattle.plain.specs.Answer.{Writes};
-ghost use Rattle.plain.specs.Rules.{Readable, PutsPlain, AnswersPlain};
+ghost use Rattle.plaintokens.specs.Promise.{Readable};
+ghost use Rattle.plain.specs.Answer.{AnswersPlain, Writes};
 use lexis::Place;
-use plainrule::clause::put_rule;
+use plaintokens::write_tokens;
 use program::read_program;
-use syntax::program::MOST_RULES;
-use syntax::program::rule_at;
 
 // The writer's answer: the number of a refusal and its part of the program; or 0, and the length of the plain form.
 pub struct Written {
@@ -17,27 +15,6 @@ pub struct Written {
 // The refusal of a buffer that is too short.
 const SHORT: u8 = 9;
 
-// The rules of a program, one after the other, as far as the buffer reaches; the length of all of them.
-fn put_rules(buffer: &mut [u8], program: &[u8]) -> usize
-    requires { ⌜ Readable (now program) ⌝ }
-    ensures { λ r. ⌜ PutsPlain (now (program .entry)) (now (buffer .entry)) r (now (buffer .exit)) ⌝ }
-{
-    let mut at = 0;
-    let mut count = 0;
-    let mut next = 0;
-    loop {
-        let read = rule_at(program, at, false, MOST_RULES <= count);
-        if read.ended {
-            return next;
-        }
-        let progress = read.progress;
-        let rule = read.rule;
-        next = put_rule(buffer, next, program, rule);
-        at = progress.next;
-        count += 1;
-    }
-}
-
 // The plain form of a program that is read, at the buffer's start, or the refusal of a buffer that is shorter. Its length is found
 // first, on a part of the buffer that has no room.
 fn write_read(program: &[u8], buffer: &mut [u8]) -> Written
@@ -45,7 +22,7 @@ fn write_read(program: &[u8], buffer: &mut [u8]) -> Written
     ensures { λ r. ⌜ AnswersPlain (now (program .entry)) (now (buffer .entry)) r (now (buffer .exit)) ⌝ }
 {
     let place = Place { start: 0, len: 0 };
-    let length = put_rules(&mut buffer[0..0], program);
+    let length = write_tokens(&mut buffer[0..0], program);
     if buffer.len() < length {
         return Written {
             code: SHORT,
@@ -53,7 +30,7 @@ fn write_read(program: &[u8], buffer: &mut [u8]) -> Written
             length: 0,
         };
     }
-    put_rules(&mut buffer[0..length], program);
+    write_tokens(&mut buffer[0..length], program);
     Written {
         code: 0,
         place,

@@ -25,7 +25,7 @@ use Rattle.grammar.specs.Writing.{digits}
 -- ---- digits, from the last
 
 -- one digit is itself, and more are those of a tenth and the last
-pub one-digit : (k n : ℕ) → n < 10 → digits k n ≡ (48 + n) ∷ []
+one-digit : (k n : ℕ) → n < 10 → digits k n ≡ (48 + n) ∷ []
 unfolding digits
 one-digit zero n h = refl
 one-digit (suc k) n h = rw (lt-ltb n 10 h, digits)
@@ -34,7 +34,7 @@ more-digits : (k n : ℕ) → 10 ≤ n → digits (suc k) n ≡ digits k (n / 10
 unfolding digits
 more-digits k n h = rw (le-ltb n 10 h, digits)
 
-pub tenth : (n : ℕ) → 10 ≤ n → n / 10 < n
+tenth : (n : ℕ) → 10 ≤ n → n / 10 < n
 tenth n h = div-lt-self (omega arith) (omega arith)
 
 -- as many places as the number says are enough
@@ -50,7 +50,7 @@ enough (suc k) (suc l) n h g = go (ltb n 10) refl (enough k l (n / 10))
         let t = tenth n s in
         more-digits k n s ∙ ap (λ (b : Bytes). b ++ (48 + n % 10) ∷ []) (ih (omega arith) (omega arith)) ∙ inv (more-digits l n s)
 
-pub last-digit : (n : ℕ) → 10 ≤ n → digits n n ≡ digits (n / 10) (n / 10) ++ (48 + n % 10) ∷ []
+last-digit : (n : ℕ) → 10 ≤ n → digits n n ≡ digits (n / 10) (n / 10) ++ (48 + n % 10) ∷ []
 last-digit zero h = absurd (let z : ⊥ = omega arith in z)
 last-digit (suc m) h =
     let t = tenth (suc m) h in

@@ -4,4 +4,3 @@ pub mod Ends
 pub mod Again
 pub mod Inside
 pub mod Theorems
-pub mod RuleBytes

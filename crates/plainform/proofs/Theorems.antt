@@ -32,15 +32,16 @@ was-read end ts a (short b n) c h = let z : _≡_ {A = ℕ} 0 1 = cc in absurd (
 was-read end ts a (over before t after e b m g n f) c h = let z : _≡_ {A = ℕ} 0 1 = cc in absurd (omega arith)
 
 module _ (text : Bytes) (c : Program false) (r : ReadAs text c) where
-  same : tokens (spell c) ≡ unplaced (placed-from false text 0)
-  same = was-read (end-of text) (placed-from false text 0) (tree c) r c refl .0
+  -- the text's tokens are the tree's
+  pub tokens-read : tokens (spell c) ≡ unplaced (placed-from false text 0)
+  tokens-read = was-read (end-of text) (placed-from false text 0) (tree c) r c refl .0
 
   within : Within programs [] (spell c)
   within = was-read (end-of text) (placed-from false text 0) (tree c) r c refl .1
 
   -- the bytes of each token are a token of its kind
   proper : All Proper (tokens (spell c))
-  proper = rw same (all-proper text (tokensFrom true text 0) 0 refl (rw (← same) (program-not-stray c)))
+  proper = rw tokens-read (all-proper text (tokensFrom true text 0) 0 refl (rw (← tokens-read) (program-not-stray c)))
 
   plain-proper : All Proper (tokens (spell (plain-form c)))
   unfolding kind-for sign-kind comparison-kind token-bytes sign-bytes comparison-bytes
@@ -48,8 +49,8 @@ module _ (text : Bytes) (c : Program false) (r : ReadAs text c) where
 
   shorter-tokens : length (written (tokens (spell c))) ≤ length text
   shorter-tokens =
-      let h = written-inside text (tokensFrom true text 0) 0 refl (rw (← same) (program-not-stray c)) (rw (← same) (program-apart c)) in
-      let l : length (written (tokens (spell c))) ≡ length (written (unplaced (placed-from false text 0))) = rw same in
+      let h = written-inside text (tokensFrom true text 0) 0 refl (rw (← tokens-read) (program-not-stray c)) (rw (← tokens-read) (program-apart c)) in
+      let l : length (written (tokens (spell c))) ≡ length (written (unplaced (placed-from false text 0))) = rw tokens-read in
       omega arith
 
   -- ---- the statements

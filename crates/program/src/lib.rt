@@ -5,7 +5,7 @@ ghost use Rattle.program.specs.Answer.{refusal, readRules, ReadsProgram}
 use lexis::Place;
 use look::look_at;
 use safety::Unbound;
-use syntax::program::MOST_RULES;
+use syntax::MOST_RULES;
 
 mod look;
 

@@ -4,7 +4,7 @@ use mathlib.Core.Bool.{Bool, true, false, true≢false, false≢true}
 use mathlib.Core.Logic.{_⊎_, inl, inr}
 use mathlib.Core.Option.{none, some}
 use mathlib.Core.List.{[], _∷_}
-use Prim.Native.Nat.{ℕ, suc, _-_, _≤_, _<_}
+use Prim.Native.Nat.{ℕ, suc, _≤_}
 use native.Mathlib.Omega.{arith}
 use borrow.Author.Tests.{ne-eqb}
 use Rattle.lexis.specs.Tokens.{part}
@@ -21,9 +21,8 @@ use Rattle.grammar.specs.Machine.{new-body, after-atom, else-wanted, moves, fin
 use Rattle.grammar.proofs.Numbers.{try-number, fire-number}
 use Rattle.rule.specs.declared.Atom.{Atom}
 use Rattle.rule.specs.declared.Variables.{Variables}
-use Rattle.rule.specs.declared.Rule.{Rule}
 use Rattle.rule.specs.Stands.{head-of, rule-of, variables-of}
-use Rattle.rule.specs.Build.{noAtom, noVariables, headOnly}
+use Rattle.rule.specs.Build.{noAtom, noVariables}
 use Rattle.syntax.specs.declared.token.TokenRead.{TokenRead}
 use Rattle.syntax.specs.declared.atom.AtomRead.{AtomRead}
 use Rattle.syntax.specs.declared.body.RuleRead.{RuleRead}
@@ -33,13 +32,10 @@ use Rattle.syntax.specs.Ahead.{wants, wanting, from}
 use Rattle.syntax.specs.Written.{plain-head, head-variables, plain-rule, rule-variables}
 use Rattle.syntax.specs.Reads.{Fits, Reads}
 use Rattle.syntax.specs.Atoms.{AtomPlace, head, atom-context, ReadsAtom}
-use Rattle.syntax.specs.Rules.{behind-rules, places-of, ReadsBody, ReadsHeaded, RulePlace, between, ReadsRule, read, ended, stopped, placedRule, startedRule, ReadsStart, stoppedStart, endedStart, goneStart, StartsHeaded}
+use Rattle.syntax.specs.Rules.{behind-rules, places-of, ReadsBody, ReadsHeaded, RulePlace, ReadsRule, read, ended, stopped, placedRule, startedRule, ReadsStart, stoppedStart, endedStart, goneStart, StartsHeaded}
 use Rattle.syntax.proofs.Tokens.{token-by, within}
 use Rattle.syntax.proofs.Steps.{same-walk, meets-none, on-kind, over-kind, wrong-token, at-end, dot-token}
 use Rattle.syntax.proofs.Sizes.{fault-none, fault-many}
-
-pub between-empty : (start end : ℕ) → end < start → record { start = start; len = 0 } ≡ between start end
-between-empty start end h = let z : end - start ≡ 0 = omega arith in rw z
 
 -- ---- from the end of the head on
 
@@ -188,15 +184,6 @@ constraint-opens true over text at t et s ek g o a ea v ev es = absurd (true≢f
 constraint-opens false over text at t et s ek g o a ea v ev es = rw (es, ea, ev) (ReadsStart.opens refl refl refl refl (none-fit noVariables refl) (if-goes over text at t et ek o))
 
 -- ---- from the start of a rule to the whole
-
-module _ (text : Bytes) (s : StartRead) (r : RuleRead) where
-  pub from-whole : s .bodied ≡ false → (y : Rule) → y ≡ headOnly true (s .head) (s .variables) → r ≡ placedRule (record { progress = s .progress; ended = s .ended; rule = y }) (s .start) → (ground over : Bool) (at : ℕ) → ReadsStart ground over text at s → ReadsRule ground over text at r
-  from-whole n y ey er ground over at (ReadsStart.whole o h) = rw (er, ey) h
-  from-whole n y ey er ground over at (ReadsStart.opens o c d g f h) = absurd (true≢false (inv o ∙ n))
-
-  pub from-bodied : s .bodied ≡ true → (b : RuleRead) → ReadsBody text (s .progress .next) (s .headed) (s .head) (s .variables) b → r ≡ placedRule b (s .start) → (ground over : Bool) (at : ℕ) → ReadsStart ground over text at s → ReadsRule ground over text at r
-  from-bodied o b gb er ground over at (ReadsStart.whole n h) = absurd (true≢false (inv o ∙ n))
-  from-bodied o b gb er ground over at (ReadsStart.opens o′ c d g f h) = rw er (h b gb)
 
 -- where a body follows, what is met before it fits
 pub bodied-fits : (ground over : Bool) (text : Bytes) (at : ℕ) (s : StartRead) → ReadsStart ground over text at s → s .bodied ≡ true → Fits (s .variables)

@@ -4,21 +4,24 @@ use borrow.Author.Needs.{needs}
 use Rattle.plain.proofs.write_plain.Statement.{statement}
 use Rattle.plain.proofs.write_plain.Tie as tie
 
-read-program-requires : tie.Need-read-program-requires
-read-program-requires c κs = search needs
-
 returns : tie.Need-returns
-returns c = passes-on (c .before .before .before .before .before .before .args .program .now) _ (c .before .before .before .read-program .ensures) (c .if1 .taken) (c .before .before .before .before .before .before .args .buffer .now)
+returns c =
+    let p = c .before .before .before in
+    let a = p .before .before .before .args in
+    passes-on (a .program .now) _ (p .read-program .ensures) (c .if1 .taken) (a .buffer .now)
 
 write-read-requires : tie.Need-write-read-requires
-write-read-requires c κs = readable (c .before .before .before .before .before .before .before .args .program .now) _ (c .before .before .before .before .read-program .ensures) (c .before .if1 .left)
-
-same-length : tie.Need-same-length
-same-length c = search needs
+write-read-requires c κs =
+    let p = c .before .before .before .before in
+    readable (p .before .before .before .args .program .now) _ (p .read-program .ensures) (c .before .if1 .left)
 
 returns-2 : tie.Need-returns-2
-returns-2 c = writes-it (c .before .before .before .before .before .before .before .before .before .before .args .program .now) _ (c .before .before .before .before .before .before .before .read-program .ensures) (c .before .before .before .before .if1 .left) (c .before .before .before .before .before .before .before .before .before .before .args .buffer .now) _ _ (c .before .before .write-read .ensures)
+returns-2 c =
+    let t = c .before .before .before .before in
+    let p = t .before .before .before in
+    let a = p .before .before .before .args in
+    writes-it (a .program .now) _ (p .read-program .ensures) (t .if1 .left) (a .buffer .now) _ _ (c .before .before .write-read .ensures)
 
 pub write-plain-spec : {M : Type 1} → statement M
 write-plain-spec =
-    tie.close (tie.spec read-program-requires returns write-read-requires same-length returns-2)
+    tie.close (tie.spec (λ c κs. search needs) returns write-read-requires (λ c. search needs) returns-2)
