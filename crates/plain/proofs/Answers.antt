@@ -1,8 +1,9 @@
--- The writer's two answers for a text that is read, from what its two passes leave.
+-- The writer's two answers for a text that is read, from what its passes leave.
 use mathlib.Core.Path.{_≡_, sym as inv, ap, _∙_}
 use mathlib.Core.Bool.{false}
 use mathlib.Core.List.{[], _++_, append-nil}
 use Prim.Native.Nat.{ℕ, _+_, _-_, _≤_, _<_}
+use native.Mathlib.Nat.{zero-add}
 use native.Mathlib.Omega.{arith}
 use lib.ListN.{length, take, drop}
 use lib.Seq.{sets, sets-eq, drop-length, length-take-le}
@@ -10,7 +11,8 @@ use Rattle.meaning.specs.Rules.{Bytes}
 use Rattle.meaning.proofs.Sets.{nothing-long}
 use Rattle.grammar.specs.Trees.{Program}
 use Rattle.rule.specs.Build.{noPlace}
-use Rattle.plainform.specs.PlainBytes.{plain-bytes}
+use Rattle.plainform.specs.PlainBytes.{ReadAs, plain-bytes}
+use Rattle.plainform.proofs.Theorems.{plain-no-longer}
 use Rattle.plaintokens.specs.Put.{Put}
 use Rattle.plaintokens.proofs.Puts.{put-length}
 use Rattle.plain.specs.Answer.{answer, WritesProgram, short, writes}
@@ -21,7 +23,13 @@ laid-whole part bytes e =
     let z : 0 + length bytes ≡ length part = omega arith in
     rw (z, drop-length part, append-nil bytes) at (sets-eq bytes part 0 (omega arith))
 
--- the first pass, on a part with no room, gives the length and leaves nothing
+-- one pass, on a buffer that is as long as the text: the plain form is no longer
+pub at-once : (text : Bytes) (c : Program false) → ReadAs text c → (buffer : Bytes) {n : ℕ} {left : Bytes} → length text ≤ length buffer → Put buffer 0 (plain-bytes c) n left → WritesProgram c buffer (answer 0 noPlace n) left
+at-once text c r buffer h p =
+    let f : length (plain-bytes c) ≤ length buffer = omega (arith, plain-no-longer text c r) in
+    rw (p .laid, p .next, sets-eq (plain-bytes c) buffer 0 (omega arith), zero-add (length (plain-bytes c))) (writes f)
+
+-- the first of two, on a part with no room, gives the length and leaves nothing
 module _ (c : Program false) (buffer : Bytes) {n : ℕ} {part : Bytes} (p : Put [] 0 (plain-bytes c) n part) where
   untouched : part ++ buffer ≡ buffer
   untouched = rw (nothing-long part (put-length p))

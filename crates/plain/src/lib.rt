@@ -15,13 +15,21 @@ pub struct Written {
 // The refusal of a buffer that is too short.
 const SHORT: u8 = 9;
 
-// The plain form of a program that is read, at the buffer's start, or the refusal of a buffer that is shorter. Its length is found
-// first, on a part of the buffer that has no room.
+// The plain form of a program that is read, at the buffer's start, or the refusal of a buffer that is shorter. It is no longer than
+// the program; where that does not say that there is room, its length is found first, on a part of the buffer that has none.
 fn write_read(program: &[u8], buffer: &mut [u8]) -> Written
     requires { ⌜ Readable (now program) ⌝ }
     ensures { λ r. ⌜ AnswersPlain (now (program .entry)) (now (buffer .entry)) r (now (buffer .exit)) ⌝ }
 {
     let place = Place { start: 0, len: 0 };
+    if program.len() <= buffer.len() {
+        let length = write_tokens(buffer, program);
+        return Written {
+            code: 0,
+            place,
+            length,
+        };
+    }
     let length = write_tokens(&mut buffer[0..0], program);
     if buffer.len() < length {
         return Written {
