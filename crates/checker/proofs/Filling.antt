@@ -1,37 +1,92 @@
 -- The tables that are filled stand for the program and the candidate.
-use mathlib.Core.Path.{_≡_, ap, _∙_}
+use mathlib.Core.Path.{_≡_, ap, ap₂, _∙_}
 use mathlib.Core.Bool.{true, false}
 use mathlib.Core.List.{List, _++_}
-use Prim.Native.Nat.{ℕ, _*_, _≤_}
+use Prim.Native.Nat.{ℕ, _≤_}
 use native.Mathlib.Omega.{arith}
-use lib.ListN.{length}
+use lib.ListN.{length, length-take}
+use lib.Seq.{take-all}
 use Rattle.lexis.specs.declared.Place.{Place}
 use Rattle.lexis.specs.Tokens.{part}
-use Rattle.reading.specs.Reading.{tree}
 use Rattle.meaning.specs.Rules.{Bytes, Rule}
 use Rattle.meaning.specs.Values.{Value}
 use Rattle.grammar.specs.Trees.{Program}
 use Rattle.grammar.specs.Abstraction.{rules-for, facts-for}
-use Rattle.syntax.specs.Text.{placed-from, end-of}
-use Rattle.syntax.specs.Programs.{ReadAs}
-use Rattle.sentences.proofs.Few.{read-few}
 use Rattle.stages.specs.Stage.{on}
 use Rattle.program.specs.Stage.{ProgramStage}
 use Rattle.program.proofs.Taken.{read-is-read}
 use Rattle.program.proofs.Safe.{read-is-safe}
-use Rattle.output.specs.Output.{Report, OutputStage}
-use Rattle.output.proofs.Uses.{handed-on}
+use Rattle.output.specs.Output.{most-bytes}
+use Rattle.output.specs.Tables.{Tables, Lent, FactsHeld}
 use Rattle.codes.proofs.Pairwise.{pairwise-more}
 use Rattle.codes.proofs.Names.{coded-rule-more}
-use Rattle.names.specs.Table.{names-of}
+use Rattle.names.specs.Table.{most-names, few-names, names-of}
 use Rattle.names.specs.Numbering.{Empty}
 use Rattle.rows.specs.Growth.{Grows}
-use Rattle.filling.specs.Rules.{FillableRules, FillsRules}
-use Rattle.factrows.specs.Filled.{Fillable, Filled}
-use Rattle.checker.specs.Standing.{RulesStand, RulesHeld, Held, WithFacts, WithRules}
+use Rattle.program.specs.Rules.{Fillable, FillsRules}
+use Rattle.checker.specs.Standing.{names-of-both, RulesStand, RulesHeld, Held, Placed, WithFacts, WithRules}
+
+-- ---- an output cut to its size
+
+abbrev whole-size : Place
+whole-size = record { start = 0; len = 65_536 }
+
+cut-small : (output : Bytes) → length (part output whole-size) ≤ 65_536
+cut-small output = simp length-take (omega arith)
+
+cut-whole : (output : Bytes) → length output ≤ most-bytes → part output whole-size ≡ output
+cut-whole output h = take-all 65_536 output h
 
 module _ (program output : Bytes) where
-  -- ---- rules
+  -- ---- room for the names of both
+
+  room-for-both : (names : List ℕ) (n : ℕ) → Empty n names → names-of-both program output ≤ n → Empty (names-of-both program output) names
+  room-for-both names n e h = record { in-order = e .in-order; no-names = e .no-names; room = let r = e .room in omega arith }
+
+  pub small-enough : (names : List ℕ) → Empty few-names names → length program ≤ 4_096 → length output ≤ 4_096 → Empty (names-of-both program output) names
+  small-enough names e p o = room-for-both names few-names e (omega arith)
+
+  pub large-enough : (names : List ℕ) → Empty most-names names → Empty (names-of-both program output) names
+  large-enough names e = room-for-both names most-names e (omega arith)
+
+  -- ---- the program's rules
+
+  -- what is asked, of a table without names
+  pub program-readable : (names rules literals : List ℕ) → Empty (names-of-both program output) names → (within : Bytes) → within ≡ part output whole-size → 10_240 ≤ length rules → 52_224 ≤ length literals → Fillable program within names rules literals
+  program-readable names rules literals empty within e long wide =
+      record {
+        room = λ size. record { in-order = empty .in-order program within size (rw e (cut-small output)); room = let r = empty .room in rw (empty .no-names program within) (omega arith) };
+        rules-long = long;
+        literals-long = wide;
+      }
+
+  module _ (c : Program false) (p : ProgramStage program (on c)) (names rules literals : List ℕ) (total : ℕ) (names′ rules′ literals′ : List ℕ) where
+    module _ (fills : FillsRules program output names rules literals c total names′ rules′ literals′) where
+      rules-held : RulesHeld program output names′ rules′ literals′ total (rules-for c)
+      rules-held = record { name-table = fills .grows .in-order; rule-table = fills .table; rules-stand = fills .stands; safe-rules = read-is-safe program c p }
+
+      named : {n : ℕ} → Empty n names → length (names-of program output names′) ≤ length program
+      named empty =
+          let grown : names-of program output names′ ≡ fills .grows .more = fills .grows .behind ∙ ap (λ (l : List Bytes). l ++ fills .grows .more) (empty .no-names program output) in
+          omega (arith, ap length grown, fills .grows .few)
+
+    -- what was promised of the output's cut holds of the output, where it is within its size
+    module _ (within : Bytes) (e : within ≡ part output whole-size) (fills : FillsRules program within names rules literals c total names′ rules′ literals′) where
+      of-output : length output ≤ most-bytes → FillsRules program output names rules literals c total names′ rules′ literals′
+      of-output size = rw (e ∙ cut-whole output size) at fills
+
+      pub with-rules-held : length output ≤ most-bytes → RulesHeld program output names′ rules′ literals′ total (rules-for c)
+      with-rules-held size = rules-held (of-output size)
+
+      pub with-rules-ready : Empty (names-of-both program output) names → WithRules program output names′ rules′ literals′ total
+      with-rules-ready empty =
+          record {
+            tree-of = c;
+            held = with-rules-held;
+            room = λ size. let f = of-output size in record { in-order = f .grows .in-order; room = let r = empty .room in rw (f .grows .long) (omega (arith, named f empty, read-is-read program c p .size)) };
+          }
+
+  -- ---- facts
 
   more-names : (names names′ : List ℕ) (n : ℕ) → Grows program output names n names′ → (R : List (Rule ℕ)) (P : List (Rule Value)) → RulesStand (names-of program output names) R P → RulesStand (names-of program output names′) R P
   more-names names names′ n g R P s = rw (g .behind) (pairwise-more _ (coded-rule-more (names-of program output names) (g .more)) s)
@@ -39,47 +94,24 @@ module _ (program output : Bytes) where
   grown-held : (names names′ rules literals : List ℕ) (total n : ℕ) (P : List (Rule Value)) → Grows program output names n names′ → RulesHeld program output names rules literals total P → RulesHeld program output names′ rules literals total P
   grown-held names names′ rules literals total n P g h = record { name-table = g .in-order; rule-table = h .rule-table; rules-stand = more-names names names′ n g _ P (h .rules-stand); safe-rules = h .safe-rules }
 
-  -- ---- facts
+  pub tables-lent : (t : Tables) (rules literals : List ℕ) (total : ℕ) → WithRules program output (t .names) rules literals total → 9_216 ≤ length (t .facts) → 1_024 ≤ length (t .predicates) → 1_024 ≤ length (t .starts) → 1_024 ≤ length (t .lengths) → Lent program output t
+  tables-lent t rules literals total w facts predicates starts lengths = record { room = w .room; facts-long = facts; predicates-long = predicates; starts-long = starts; lengths-long = lengths }
 
-  module _ (line : Place) (fs : Program true) (o : OutputStage output (on (Report.facts line fs))) where
-    pub facts-fillable : (names rules literals facts predicates : List ℕ) (total : ℕ) → WithRules program output line names rules literals total → 9_216 ≤ length facts → 1_024 ≤ length predicates → Fillable program output line names facts predicates
-    facts-fillable names rules literals facts predicates total w long wide = record { inside = handed-on output o .inside; tree-of = fs; read = handed-on output o .read; room = w .room; facts-long = long; predicates-long = wide }
+  module _ (line : Place) (fs : Program true) (t : Tables) (n : ℕ) (u : Tables) (f : FactsHeld program output line fs t n u) where
+    pub all-placed : Placed output line (u .starts) (u .lengths) n
+    all-placed = record { each = λ k l. ap₂ (λ (a b : ℕ). record { start = a; len = b }) (f .starts-hold .first k l) (f .lengths-hold .first k l) }
 
-    module _ (names rules literals facts predicates : List ℕ) (total n : ℕ) (names′ facts′ predicates′ : List ℕ) (filled : (gs : Program true) → ReadAs true (part output line) (tree gs) → Filled program output gs names facts predicates n names′ facts′ predicates′) where
-      pub held-all : (P : List (Rule Value)) → RulesHeld program output names rules literals total P → Held program output names′ rules literals facts′ n total P (facts-for fs)
-      held-all P h =
-          let f = filled fs (handed-on output o .read) in
-          record { rules-held = grown-held names names′ rules literals total _ P (f .grows) h; fact-table = f .table; facts-stand = f .stands }
+    module _ (rules literals : List ℕ) (total : ℕ) where
+      pub held-all : (P : List (Rule Value)) → RulesHeld program output (t .names) rules literals total P → Held program output (u .names) rules literals (u .facts) n total P (facts-for fs)
+      held-all P h = record { rules-held = grown-held (t .names) (u .names) rules literals total _ P (f .grows) h; fact-table = f .table; facts-stand = f .stands }
 
-      pub with-facts-ready : (P : List (Rule Value)) → RulesHeld program output names rules literals total P → WithFacts program output line names′ rules literals facts′ n total
-      with-facts-ready P h = record { program-rules = P; candidate = facts-for fs; held = held-all P h; size = handed-on output o .size; inside = handed-on output o .inside }
-
-  -- ---- the program's rules
-
-  module _ (c : Program false) (p : ProgramStage program (on c)) where
-    pub rules-fillable : (names rules literals : List ℕ) → Empty names → length output ≤ 65_536 → 10_240 ≤ length rules → 52_224 ≤ length literals → FillableRules program output names rules literals
-    rules-fillable names rules literals empty size long wide =
-        let table = empty .in-order program output (read-is-read program c p .size) size in
-        record {
-          room = record { in-order = table; room = rw (empty .no-names program output) (omega arith) };
-          rules-long = long;
-          literals-long = wide;
-          rules-of-it = c;
-          read = read-is-read program c p .reading;
-          are-safe = read-is-safe program c p;
-        }
-
-    module _ (names rules literals : List ℕ) (total : ℕ) (names′ rules′ literals′ : List ℕ) (fills : FillsRules program output names rules literals c total names′ rules′ literals′) where
-      pub rules-held : RulesHeld program output names′ rules′ literals′ total (rules-for c)
-      rules-held = record { name-table = fills .grows .in-order; rule-table = fills .table; rules-stand = fills .stands; safe-rules = read-is-safe program c p }
-
-      few : total ≤ 256
-      few = omega (arith, fills .count-is, read-few false (end-of program) (placed-from false program 0) (read-is-read program c p .reading))
-
-      named : Empty names → length (names-of program output names′) ≤ total * 153
-      named empty =
-          let grown : names-of program output names′ ≡ fills .grows .more = fills .grows .behind ∙ ap (λ (l : List Bytes). l ++ fills .grows .more) (empty .no-names program output) in
-          omega (arith, ap length grown, fills .grows .few)
-
-      pub with-rules-ready : Empty names → (line : Place) (fs : Program true) → OutputStage output (on (Report.facts line fs)) → WithRules program output line names′ rules′ literals′ total
-      with-rules-ready empty line fs o = record { program-rules = rules-for c; held = rules-held; room = record { in-order = fills .grows .in-order; room = omega (arith, named empty, few) }; facts-tree = fs; facts-read = o }
+      pub with-facts-ready : 1_024 ≤ length (t .starts) → 1_024 ≤ length (t .lengths) → (P : List (Rule Value)) → RulesHeld program output (t .names) rules literals total P → WithFacts program output (u .names) rules literals (u .facts) (u .predicates) (u .starts) (u .lengths) n total
+      with-facts-ready starts lengths P h =
+          record {
+            program-rules = P;
+            candidate = facts-for fs;
+            held = held-all P h;
+            are-predicates = f .are-predicates;
+            starts-long = omega (arith, f .table .few, starts, f .starts-hold .same-size);
+            lengths-long = omega (arith, f .table .few, lengths, f .lengths-hold .same-size);
+          }

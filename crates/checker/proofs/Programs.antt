@@ -1,14 +1,19 @@
--- What a caller makes of a program that is refused.
-use mathlib.Core.Path.{_≡_, refl, sym as inv}
+-- What a caller makes of a program that has been read into its tables.
+use mathlib.Core.Path.{_≡_, refl, sym as inv, ap, _∙_}
+use mathlib.Core.Bool.{false}
+use mathlib.Core.List.{List}
 use Prim.Native.Nat.{ℕ}
+use native.Mathlib.Omega.{arith}
 use Rattle.meaning.specs.Rules.{Bytes}
+use Rattle.grammar.specs.Trees.{Program}
 use Rattle.stages.specs.Parts.{Part, program, in-text}
-use Rattle.stages.specs.Stage.{stop, stops, goes, given, first, fault}
+use Rattle.stages.specs.Stage.{Outcome, on, stop, stops, goes, given, first, fault}
 use Rattle.stages.proofs.Unique.{on-stop}
 use Rattle.program.specs.declared.ProgramRead.{ProgramRead}
 use Rattle.program.specs.Stage.{ProgramStage}
-use Rattle.program.specs.Answer.{ReadsProgram}
-use Rattle.program.proofs.Taken.{refused-elsewhere}
+use Rattle.program.specs.Rules.{FillsRules}
+use Rattle.program.specs.Answer.{fields, ReadsProgram}
+use Rattle.program.proofs.Taken.{refused-between}
 
 -- a refusal's part is a part of the program
 program-part : (text : Bytes) (n : ℕ) (p : Part) → ProgramStage text (stop n p) → in-text program (p .place) ≡ p
@@ -17,6 +22,26 @@ program-part text n p (goes u _ h (stops _ _ (fault _ q k))) = refl
 program-part text n p (goes u _ h (goes c _ k (stops _ _ (first i _ x f)))) = refl
 program-part text n p (goes u _ h (goes c _ k (goes v _ l e))) = absurd (on-stop (inv e))
 
--- a number is that of a refusal
-pub program-refused : (text : Bytes) (r : ProgramRead) → ReadsProgram text r → (r .code ≡ 0 → ⊥) → ProgramStage text (stop (r .code) (in-text program (r .place)))
-program-refused text r g z = let (p, h, e) = refused-elsewhere text r g z in rw (e, program-part text (r .code) p h) h
+module _ (text the-output : Bytes) (names rules literals : List ℕ) (r : ProgramRead) (names′ rules′ literals′ : List ℕ) (g : ReadsProgram text the-output names rules literals r names′ rules′ literals′) where
+  -- a number is that of a refusal
+  pub program-refused : (r .code ≡ 0 → ⊥) → ProgramStage text (stop (r .code) (in-text program (r .place)))
+  unfolding fields
+  program-refused z = go (g .outcome) (g .reads) (g .so)
+    where
+      go : (o : Outcome (Program false)) → ProgramStage text o → r ≡ fields o → ProgramStage text (stop (r .code) (in-text program (r .place)))
+      go (on c) h e = absurd (z (ap (λ (x : ProgramRead). x .code) e))
+      go (stop n p) h e = rw (e, program-part text n p h) h
+
+  -- without one the tables hold the rules of some program
+  pub record RulesRead : Type 0 where
+    pub tree-of : Program false
+    pub stage : ProgramStage text (on tree-of)
+    pub fills : FillsRules text the-output names rules literals tree-of (r .count) names′ rules′ literals′
+
+  pub program-read : r .code ≡ 0 → RulesRead
+  unfolding fields
+  program-read z = go (g .outcome) refl
+    where
+      go : (o : Outcome (Program false)) → g .outcome ≡ o → RulesRead
+      go (on c) e = record { tree-of = c; stage = rw e at (g .reads); fills = g .filled c e }
+      go (stop n p) e = absurd (let k = refused-between text n p (rw e at (g .reads)) .0 in let q : r .code ≡ n = ap (λ (x : ProgramRead). x .code) (g .so ∙ ap fields e) in omega arith)

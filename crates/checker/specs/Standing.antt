@@ -1,10 +1,11 @@
 -- Tables that stand for a program and a candidate.
 use mathlib.Core.Path.{_≡_}
-use mathlib.Core.Bool.{true}
+use mathlib.Core.Bool.{true, false}
 use mathlib.Core.List.{List}
-use Prim.Native.Nat.{ℕ, _+_, _≤_, _<_}
-use lib.ListN.{length}
+use Prim.Native.Nat.{ℕ, _+_, _≤_, _<_, min}
+use lib.ListN.{length, getD, take}
 use Rattle.lexis.specs.declared.Place.{Place}
+use Rattle.lexis.specs.Tokens.{part}
 use Rattle.meaning.specs.Sets.{every}
 use Rattle.meaning.specs.Rules.{Bytes, Fact, Rule}
 use Rattle.meaning.specs.Values.{Value}
@@ -12,36 +13,34 @@ use Rattle.meaning.specs.Safety.{safe}
 use Rattle.codes.specs.Codes.{Coded}
 use Rattle.codes.specs.Predicates.{CodedName}
 use Rattle.codes.specs.Related.{Pairwise, RelatedAtom, RelatedRule}
-use Rattle.names.specs.Table.{names-of, Table}
-use Rattle.tables.specs.Rows.{facts-of, rules-of}
+use Rattle.names.specs.Table.{most-names, names-of, Table}
+use Rattle.tables.specs.Rows.{from, fact-predicate, facts-of, rules-of}
 use Rattle.tables.specs.WellFormed.{FactTable, RuleTable}
 use Rattle.rows.specs.Growth.{Room}
 use Rattle.chains.specs.Links.{Linked}
 use Rattle.pass.specs.Passed.{Tables}
 use Rattle.grammar.specs.Trees.{Program}
-use Rattle.grammar.specs.Abstraction.{facts-for}
+use Rattle.grammar.specs.Abstraction.{rules-for}
 use Rattle.stages.specs.Parts.{Text, start-of}
-use Rattle.stages.specs.Stage.{on, Stage, _⟫_, Refuse, First}
-use Rattle.output.specs.Output.{Report, OutputStage}
+use Rattle.stages.specs.Stage.{Stage, _⟫_, Refuse, First}
+use Rattle.sentences.specs.Sentences.{sentence}
+use Rattle.output.specs.Output.{most-bytes, on-line, OutputStage}
 use Rattle.answered.specs.Answer.{Result}
 use Rattle.answered.specs.Cases.{Clash}
-use Rattle.answered.specs.Answered.{rule-part, fact-part}
+use Rattle.answered.specs.Answered.{rule-part, fact-part, Reported, code-of}
 use Rattle.answered.specs.Judged.{Settled}
 use Rattle.checker.specs.declared.answer.Answer.{Answer}
 use Rattle.checker.specs.Checked.{Answers}
+
+-- as many names as the two texts can have, where each is within its size
+abbrev pub names-of-both : Bytes → Bytes → ℕ
+names-of-both program output = min most-names (length program + length output)
 
 abbrev pub FactsStand : List Bytes → List (Fact ℕ) → List (Fact Value) → Type 0
 FactsStand names F I = Pairwise (RelatedAtom (CodedName names) (Coded names)) F I
 
 abbrev pub RulesStand : List Bytes → List (Rule ℕ) → List (Rule Value) → Type 0
 RulesStand names R P = Pairwise (RelatedRule (CodedName names) (Coded names)) R P
-
--- fact k of so many, on a line of an output within its size
-pub record OnLine (output : Bytes) (line : Place) (count k : ℕ) : Type 0 where
-  pub size : length output ≤ 65_536
-  pub inside : line .start + line .len ≤ length output
-  pub few : count ≤ 1_024
-  pub below : k < count
 
 -- well-formed tables of names, rules and literals, for the safe rules P
 pub record RulesHeld (program output : Bytes) (names rules literals : List ℕ) (total : ℕ) (P : List (Rule Value)) : Type 0 where
@@ -85,28 +84,41 @@ Behind program output line places P I =
     Refuse 9 (start-of Text.output) (length places < length I) ⟫ λ _.
     Settled (rule-part program) P I places
 
--- the facts stand on a line of an output within its size
-pub record WithFacts (program output : Bytes) (line : Place) (names rules literals facts : List ℕ) (count total : ℕ) : Type 0 where
+-- where fact k stands, by tables of starts and lengths
+abbrev pub place-in : List ℕ → List ℕ → ℕ → Place
+place-in starts lengths k = record { start = getD starts k 0; len = getD lengths k 0 }
+
+-- the tables have the places of so many facts of a line
+pub record Placed (output : Bytes) (line : Place) (starts lengths : List ℕ) (count : ℕ) : Type 0 where
+  pub each : (k : ℕ) → k < count → place-in starts lengths k ≡ on-line line (sentence true (part output line) k)
+
+-- the tables stand for rules and facts, and have the predicate and a place of each fact
+pub record WithFacts (program output : Bytes) (names rules literals facts predicates starts lengths : List ℕ) (count total : ℕ) : Type 0 where
   pub program-rules : List (Rule Value)
   pub candidate : List (Fact Value)
   pub held : Held program output names rules literals facts count total program-rules candidate
-  pub size : length output ≤ 65_536
-  pub inside : line .start + line .len ≤ length output
+  pub are-predicates : take count predicates ≡ from (fact-predicate facts) count 0
+  pub starts-long : count ≤ length starts
+  pub lengths-long : count ≤ length lengths
 
-abbrev pub AnswersFacts : (program output : Bytes) → Place → (names rules literals facts : List ℕ) (count total : ℕ) → List ℕ → Answer → List ℕ → Type 0
-AnswersFacts program output line names rules literals facts count total places a left =
-    (P : List (Rule Value)) (I : List (Fact Value)) → Held program output names rules literals facts count total P I → Answers (Behind program output line places P I) places a left
+abbrev pub AnswersFacts : (program output : Bytes) (names rules literals facts starts lengths : List ℕ) (count total : ℕ) → List ℕ → Answer → List ℕ → Type 0
+AnswersFacts program output names rules literals facts starts lengths count total places a left =
+    (line : Place) (P : List (Rule Value)) (I : List (Fact Value)) → Held program output names rules literals facts count total P I → Placed output line starts lengths count → Answers (Behind program output line places P I) places a left
 
--- ---- with the rules in their tables: the facts of the line, and then as above
+-- ---- with the rules in their tables: the output's 1 to 4; 10; then by the report
 
--- room for the names of the facts, which are read
-pub record WithRules (program output : Bytes) (line : Place) (names rules literals : List ℕ) (total : ℕ) : Type 0 where
-  pub program-rules : List (Rule Value)
-  pub held : RulesHeld program output names rules literals total program-rules
-  pub room : Room program output names 9_216
-  pub facts-tree : Program true
-  pub facts-read : OutputStage output (on (Report.facts line facts-tree))
+abbrev pub BehindProgram : (program output : Bytes) (code : ℕ) → List ℕ → Program false → Stage Result
+BehindProgram program output code places c =
+    OutputStage output ⟫ λ r.
+    Refuse 10 (start-of Text.output) (¬ (code ≡ code-of r)) ⟫ λ _.
+    Reported program output places c r
 
-abbrev pub AnswersRules : (program output : Bytes) → Place → (names rules literals : List ℕ) (total : ℕ) → List ℕ → Answer → List ℕ → Type 0
-AnswersRules program output line names rules literals total places a left =
-    (P : List (Rule Value)) (fs : Program true) → RulesHeld program output names rules literals total P → OutputStage output (on (Report.facts line fs)) → Answers (Behind program output line places P (facts-for fs)) places a left
+-- the tables stand for the rules of a program, and have room for the names of the facts; all this beside an output within its size
+pub record WithRules (program output : Bytes) (names rules literals : List ℕ) (total : ℕ) : Type 0 where
+  pub tree-of : Program false
+  pub held : length output ≤ most-bytes → RulesHeld program output names rules literals total (rules-for tree-of)
+  pub room : length output ≤ most-bytes → Room program output names (length output)
+
+abbrev pub AnswersRules : (program output : Bytes) (code : ℕ) (names rules literals : List ℕ) (total : ℕ) → List ℕ → Answer → List ℕ → Type 0
+AnswersRules program output code names rules literals total places a left =
+    (c : Program false) → (length output ≤ most-bytes → RulesHeld program output names rules literals total (rules-for c)) → Answers (BehindProgram program output code places c) places a left

@@ -2,8 +2,9 @@
 ghost use mathlib.Core.Path.{_≡_};
 ghost use Rattle.checker.specs.Values.{refused, accepted, unsatisfied, smaller, claimed};
 use derived::Derived;
+use lexis::NOWHERE;
 use lexis::Place;
-use rule::MOST_LITERALS;
+use lexis::sizes::MOST_LITERALS;
 
 // The two lent texts.
 pub enum Text {
@@ -52,7 +53,7 @@ pub fn claimed(kind: Kind) -> Answer
         number: 0,
         part: Part {
             text: Text::Program,
-            place: Place { start: 0, len: 0 },
+            place: NOWHERE,
         },
         atoms: 0,
         rounds: 0,

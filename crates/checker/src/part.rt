@@ -11,7 +11,7 @@ pub fn part<'a>(program: &'a [u8], output: &'a [u8], part: Part) -> &'a [u8]
     let place = part.place;
     let text = part.text;
     match text {
-        Text::Program => rule::name::part(program, place),
-        Text::Output => rule::name::part(output, place),
+        Text::Program => lexis::parts::part(program, place),
+        Text::Output => lexis::parts::part(output, place),
     }
 }

@@ -10,8 +10,8 @@ use crate::answer::smaller;
 use crate::answer::unsatisfied;
 use judge::Judgement;
 use judge::Kind;
-use rule::MOST_LITERALS;
-use rule::least;
+use lexis::parts::least;
+use lexis::sizes::MOST_LITERALS;
 use sentences::sentence;
 
 // The refusal where arithmetic leaves the range.

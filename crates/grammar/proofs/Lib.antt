@@ -13,4 +13,3 @@ pub mod Plainer
 pub mod PlainForm
 pub mod Apart
 pub mod PlainTheorems
-pub mod Prefixes

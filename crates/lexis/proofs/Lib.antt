@@ -13,3 +13,5 @@ pub mod LongestMatch
 pub mod Next
 pub mod TokenList
 pub mod Examples
+pub mod PartBytes
+pub mod PlaceTables

@@ -9,3 +9,4 @@ pub mod Spells
 pub mod Longest
 pub mod Token
 pub mod Tokens
+pub mod Places

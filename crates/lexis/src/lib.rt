@@ -17,13 +17,19 @@ pub mod class;
 mod gap;
 pub mod kind;
 pub mod number;
+pub mod parts;
+pub mod places;
 pub mod run;
+pub mod sizes;
 
 // A part of a text: its first byte, and its length.
 pub struct Place {
     pub start: usize,
     pub len: usize,
 }
+
+// The part that names nothing: empty, at a text's start.
+pub const NOWHERE: Place = Place { start: 0, len: 0 };
 
 // A token: what it is, and where it stands.
 pub struct Token {

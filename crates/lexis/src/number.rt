@@ -2,9 +2,7 @@
 ghost use mathlib.Core.Path.{_≡_};
 ghost use Prim.Native.Nat.{_+_, _*_, _-_};
 ghost use Rattle.lexis.specs.Number.{capped, decimal};
-
-// The largest number of the language.
-pub const MOST_NUMBER: u64 = 1_000_000_000;
+use crate::sizes::MOST_NUMBER;
 
 // The value of every number that is over its size.
 pub const OVER_NUMBER: u64 = 1_000_000_001;

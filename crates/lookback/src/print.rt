@@ -3,9 +3,9 @@ use checker::answer::Answer;
 use checker::answer::Kind;
 use derived::Derived;
 use derived::PLACES;
+use lexis::sizes::MOST_LITERALS;
 use libc::STDOUT_FILENO;
 use plain::Written;
-use rule::MOST_LITERALS;
 
 fn put(bytes: &[u8]) {
     io::write_all(STDOUT_FILENO, bytes);

@@ -6,7 +6,7 @@ use native.Mathlib.Omega.{arith}
 use lib.ListN.{length, getD, replicate, length-replicate, getD-replicate}
 use Rattle.meaning.specs.Rules.{Bytes}
 use Rattle.codes.proofs.Names.{distinct-none}
-use Rattle.names.specs.Table.{first-row, table-size, text-size, count, first, names-of, Table}
+use Rattle.names.specs.Table.{first-row, capacity, text-size, count, first, names-of, Table}
 use Rattle.names.specs.Numbering.{Empty}
 
 module _ (program output : Bytes) (table : List ℕ) (zeros : (j : ℕ) → j < first-row → getD table j 0 ≡ 0) where
@@ -14,7 +14,7 @@ module _ (program output : Bytes) (table : List ℕ) (zeros : (j : ℕ) → j < 
   unfolding first
   no-names = rw (zeros 0 (omega arith))
 
-  pub emptied : length program ≤ text-size → length output ≤ text-size → table-size ≤ length table → Table program output table
+  pub emptied : length program ≤ text-size → length output ≤ text-size → first-row ≤ length table → Table program output table
   emptied p o s =
       let none : count table ≡ 0 = zeros 0 (omega arith) in
       record {
@@ -27,12 +27,13 @@ module _ (program output : Bytes) (table : List ℕ) (zeros : (j : ℕ) → j < 
         links = λ i h. absurd (let z : ⊥ = omega arith in z);
       }
 
-pub zeros-empty : (size : ℕ) → table-size ≤ size → Empty (replicate size 0)
-zeros-empty size h =
+pub zeros-empty : (n size : ℕ) → first-row ≤ size → n ≤ capacity size → Empty n (replicate size 0)
+zeros-empty n size h k =
     record {
       in-order = λ program output p o. emptied program output (replicate size 0) zeros p o (let l = length-replicate {A = ℕ} size 0 in omega arith);
       no-names = λ program output. no-names program output (replicate size 0) zeros;
+      room = rw (length-replicate {A = ℕ} size 0) k;
     }
   where
     zeros : (j : ℕ) → j < first-row → getD {A = ℕ} (replicate size 0) j 0 ≡ 0
-    zeros j k = getD-replicate size j 0 0 (omega arith)
+    zeros j l = getD-replicate size j 0 0 (omega arith)

@@ -86,7 +86,7 @@ module _ (program output : Bytes) (table : List ℕ) (slot : ℕ) (place : Place
           program-size = t .program-size;
           output-size = t .output-size;
           size = rw (length-after table slot place) (t .size);
-          room = let e = after-count table slot place a in let r = a .room in omega arith;
+          room = let e = after-count table slot place a in let r = a .room in rw (length-after table slot place) (omega arith);
           distinct = rw names-more (distinct-more _ _ (t .distinct) absent nonempty);
           heads = rw (after-count table slot place a) heads;
           links = rw (after-count table slot place a) links;

@@ -1,5 +1,5 @@
 -- What interning a name does in each case: the name is there, the table is full, or the name is put behind the others.
-use mathlib.Core.Path.{_≡_, refl, sym, ap, _∙_}
+use mathlib.Core.Path.{_≡_, refl, sym, ap, subst, _∙_}
 use mathlib.Core.Logic.{inr}
 use mathlib.Core.List.{List, [], _∷_, _++_}
 use Prim.Native.Nat.{ℕ}
@@ -10,37 +10,38 @@ use Rattle.meaning.specs.Rules.{Bytes}
 use Rattle.names.specs.declared.Found.{Found}
 use Rattle.names.specs.declared.Found.the-variants.{At, Nothing}
 use Rattle.names.specs.Texts.{place-at, bytes-at}
-use Rattle.names.specs.Table.{most-names, count, name-at, names-of, slot-of, with-row, Table, Addable}
+use Rattle.names.specs.Table.{capacity, count, name-at, names-of, slot-of, with-row, Table, Addable}
 use Rattle.names.specs.Numbering.{Absent, Finds, held, added, Interns}
 use Rattle.names.proofs.Firsts.{length-first}
 use Rattle.names.proofs.Slots.{slot-inside}
-use Rattle.names.proofs.Standing.{starts-inside, no-longer, own-length}
+use Rattle.names.proofs.Standing.{starts-inside, no-longer}
+use Rattle.names.proofs.Rows.{length-after}
 use Rattle.names.proofs.Growth.{names-more, table-more}
 
 not-there : (names : List Bytes) (name : Bytes) (f : Found) → f ≡ Nothing → Finds names name f → Absent names name
 not-there names name (At i) e h = absurd (let z : _≡_ {A = ℕ} 0 1 = cc in let y : ⊥ = omega arith in y)
 not-there names name Nothing e h = h
 
-module _ (program output : Bytes) (table : List ℕ) (t : Table program output table) (place : Place) (name : Bytes) (b : name ≡ bytes-at program output place) (f : Found) (finds : Finds (names-of program output table) name f) where
-  found : Finds (names-of program output table) (bytes-at program output place) f
-  found = rw b at finds
+module _ (program output : Bytes) (table : List ℕ) (t : Table program output table) (start : ℕ) (name : Bytes) (b : name ≡ bytes-at program output (place-at start (length name))) (f : Found) (finds : Finds (names-of program output table) name f) where
+  abbrev place : Place
+  place = place-at start (length name)
 
-  pub interned-held : (i : ℕ) → f ≡ At i → Interns program output table (bytes-at program output place) table f
-  interned-held i e = go f e found
+  pub interned-held : (i : ℕ) → f ≡ At i → Interns program output table name table f
+  interned-held i e = go f e finds
     where
-      go : (g : Found) → g ≡ At i → Finds (names-of program output table) (bytes-at program output place) g → Interns program output table (bytes-at program output place) table g
-      go (At j) e h = (t, held h)
+      go : (g : Found) → g ≡ At i → Finds (names-of program output table) name g → Interns program output table name table g
+      go (At j) e h = (t, held h, refl)
       go Nothing e h = absurd (let z : _≡_ {A = ℕ} 0 1 = cc in let y : ⊥ = omega arith in y)
 
   module _ (n : ℕ) (c : n ≡ count table) (none : f ≡ Nothing) where
-    pub interned-full : n ≡ most-names → Interns program output table (bytes-at program output place) table Nothing
-    interned-full m = (refl, inr (not-there _ _ f none found, length-first (name-at program output table) (count table) ∙ sym c ∙ m))
+    pub interned-full : n ≡ capacity (length table) → Interns program output table name table Nothing
+    interned-full m = (refl, inr (not-there _ _ f none finds, length-first (name-at program output table) (count table) ∙ sym c ∙ m))
 
-    module _ (slot : ℕ) (s : slot ≡ slot-of name) (nonempty : length name ≡ 0 → ⊥) (room : n ≡ most-names → ⊥) where
+    module _ (slot : ℕ) (s : slot ≡ slot-of name) (nonempty : length name ≡ 0 → ⊥) (room : n ≡ capacity (length table) → ⊥) where
       filled : bytes-at program output place ≡ [] → ⊥
       filled e = nonempty (ap length (b ∙ e))
 
-      pub addable : Addable table slot (place-at (place .start) (length name))
+      pub addable : Addable table slot place
       addable =
           let below = slot-inside slot name s in
           record {
@@ -52,17 +53,14 @@ module _ (program output : Bytes) (table : List ℕ) (t : Table program output t
             link-fits = let w = t .heads slot below .within in let r = t .room in omega arith;
           }
 
-      same-name : bytes-at program output (place-at (place .start) (length name)) ≡ bytes-at program output place
-      same-name = rw b (own-length program output place)
-
-      pub interned-new : Interns program output table (bytes-at program output place) (with-row table slot (place-at (place .start) (length name))) (At n)
-      interned-new = (table-more program output table slot _ addable t (s ∙ ap slot-of (b ∙ sym same-name)) (rw same-name absent) (rw same-name filled), rw (more, number) (added absent))
+      pub interned-new : Interns program output table name (with-row table slot place) (At n)
+      interned-new = (table-more program output table slot place addable t (s ∙ ap slot-of b) (subst (Absent (names-of program output table)) b absent) filled, rw (more, number) (added absent), length-after table slot place)
         where
-          absent : Absent (names-of program output table) (bytes-at program output place)
-          absent = not-there _ _ f none found
+          absent : Absent (names-of program output table) name
+          absent = not-there _ _ f none finds
 
-          more : names-of program output (with-row table slot (place-at (place .start) (length name))) ≡ names-of program output table ++ (bytes-at program output place ∷ [])
-          more = names-more program output table slot _ addable ∙ ap (λ (r : Bytes). names-of program output table ++ (r ∷ [])) same-name
+          more : names-of program output (with-row table slot place) ≡ names-of program output table ++ (name ∷ [])
+          more = names-more program output table slot place addable ∙ ap (λ (r : Bytes). names-of program output table ++ (r ∷ [])) (sym b)
 
           number : n ≡ length (names-of program output table)
           number = c ∙ sym (length-first (name-at program output table) (count table))

@@ -13,7 +13,7 @@ use Rattle.codes.specs.Predicates.{CodedName}
 use Rattle.codes.proofs.Names.{last-at}
 use Rattle.names.specs.declared.Found.{Found}
 use Rattle.names.specs.declared.Found.the-variants.{At, Nothing}
-use Rattle.names.specs.Table.{most-names, count, name-at, names-of, Table}
+use Rattle.names.specs.Table.{capacity, count, name-at, names-of}
 use Rattle.names.specs.Numbering.{Absent, Finds, Grown, held, added, Interns}
 use Rattle.names.proofs.Firsts.{length-first}
 
@@ -64,19 +64,19 @@ module _ (names : List Bytes) (n : Bytes) where
 
 module _ (program output : Bytes) (table : List ℕ) (n : Bytes) where
   -- a name that has bytes has a number afterwards, where the table has room
-  pub numbered : (after : List ℕ) (f : Found) → Interns program output table n after f → (n ≡ [] → ⊥) → length (names-of program output table) < most-names → (i : ℕ) × (f ≡ At i)
+  pub numbered : (after : List ℕ) (f : Found) → Interns program output table n after f → (n ≡ [] → ⊥) → length (names-of program output table) < capacity (length table) → (i : ℕ) × (f ≡ At i)
   numbered after (At i) h nonempty room = (i, refl)
   numbered after Nothing h nonempty room = absurd (turned-away (h .1))
     where
-      turned-away : (n ≡ []) ⊎ (Absent (names-of program output table) n × (length (names-of program output table) ≡ most-names)) → ⊥
+      turned-away : (n ≡ []) ⊎ (Absent (names-of program output table) n × (length (names-of program output table) ≡ capacity (length table))) → ⊥
       turned-away (inl e) = nonempty e
       turned-away (inr e) = let l = e .1 in omega arith
 
-  not-both : (after : List ℕ) (i : ℕ) → Table program output after × Grown (names-of program output table) n (names-of program output after) i → (n ≡ []) ⊎ (Absent (names-of program output table) n × (length (names-of program output table) ≡ most-names)) → ⊥
+  not-both : (after : List ℕ) (i : ℕ) → Interns program output table n after (At i) → (n ≡ []) ⊎ (Absent (names-of program output table) n × (length (names-of program output table) ≡ capacity (length table))) → ⊥
   not-both after i p (inl e) = p .0 .distinct .nonempty i (grown-at _ n _ i (p .1) ∙ ap some e)
-  not-both after i p (inr e) = past (names-of program output after) i (p .1) (let l = length-first (name-at program output after) (count after) in let r = p .0 .room in omega arith)
+  not-both after i p (inr e) = past (names-of program output after) i (p .1) (let l = length-first (name-at program output after) (count after) in let r = p .0 .room in let s = ap capacity (p .2) in omega arith)
     where
-      past : (names : List Bytes) (j : ℕ) → Grown (names-of program output table) n names j → length names ≤ most-names → ⊥
+      past : (names : List Bytes) (j : ℕ) → Grown (names-of program output table) n names j → length names ≤ capacity (length table) → ⊥
       past _ j (held h) l = e .0 j h
       past _ _ (added h) l = let k = length-append (names-of program output table) (n ∷ []) in let m = e .1 in omega arith
 

@@ -6,17 +6,18 @@ use mathlib.Core.List.{List, [], _∷_, _++_}
 use Prim.Native.Nat.{ℕ, _≤_}
 use lib.ListN.{length, getElem?}
 use Rattle.meaning.specs.Rules.{Bytes}
-use Rattle.names.specs.Table.{most-names, text-size, names-of, Table}
+use Rattle.names.specs.Table.{capacity, text-size, names-of, Table}
 use Rattle.names.specs.declared.Found.{Found}
 use Rattle.names.specs.declared.Found.the-variants.{At, Nothing}
 
 abbrev pub Absent : List Bytes → Bytes → Type 0
 Absent names name = (i : ℕ) → getElem? names i ≡ some name → ⊥
 
--- beside any two texts within their size, a table in order that has no names
-pub record Empty (table : List ℕ) : Type 0 where
+-- beside any two texts within their size, a table in order that has no names and room for n
+pub record Empty (n : ℕ) (table : List ℕ) : Type 0 where
   pub in-order : (program output : Bytes) → length program ≤ text-size → length output ≤ text-size → Table program output table
   pub no-names : (program output : Bytes) → names-of program output table ≡ []
+  pub room : n ≤ capacity (length table)
 
 -- the answer to where a name stands
 abbrev pub Finds : List Bytes → Bytes → Found → Type 0
@@ -30,6 +31,6 @@ pub data Grown (names : List Bytes) (name : Bytes) : List Bytes → ℕ → Type
 
 -- the table afterwards and the answer: the name has a number, or it is empty or new to a full table, and nothing changes
 abbrev pub Interns : Bytes → Bytes → List ℕ → Bytes → List ℕ → Found → Type 0
-Interns program output table name table′ (At i) = Table program output table′ × Grown (names-of program output table) name (names-of program output table′) i
+Interns program output table name table′ (At i) = Table program output table′ × Grown (names-of program output table) name (names-of program output table′) i × (length table′ ≡ length table)
 Interns program output table name table′ Nothing =
-    (table′ ≡ table) × ((name ≡ []) ⊎ (Absent (names-of program output table) name × (length (names-of program output table) ≡ most-names)))
+    (table′ ≡ table) × ((name ≡ []) ⊎ (Absent (names-of program output table) name × (length (names-of program output table) ≡ capacity (length table))))

@@ -2,9 +2,10 @@
 -- for each name: where its bytes start in the two texts, how many they are, and the link to an earlier name of its slot.
 use mathlib.Core.Path.{_≡_}
 use mathlib.Core.List.{List, [], _∷_, _++_}
-use Prim.Native.Nat.{ℕ, zero, suc, _+_, _*_, _%_, _≤_, _<_}
+use Prim.Native.Nat.{ℕ, zero, suc, _+_, _-_, _*_, _/_, _%_, _≤_, _<_, min}
 use lib.ListN.{length, getD, set}
 use Rattle.lexis.specs.declared.Place.{Place}
+use Rattle.lexis.specs.Places.{number-limit}
 use Rattle.meaning.specs.Rules.{Bytes}
 use Rattle.codes.specs.Codes.{Distinct}
 use Rattle.names.specs.Texts.{place-at, bytes-at}
@@ -15,21 +16,28 @@ slots = 4_096
 abbrev pub first-row : ℕ
 first-row = 4_097
 
--- 256 rules of 17 atoms and 1,024 facts have each 9 names, so no more than this are ever met
+-- as many as the two texts have bytes: each name that is put in has one of its own
 abbrev pub most-names : ℕ
-most-names = 48_384
+most-names = 131_072
 
--- the numbers of a table with room for them
+-- how many names a table of so many numbers has room for
+abbrev pub capacity : ℕ → ℕ
+capacity size = min ((size - first-row) / 3) most-names
+
+-- the numbers of a table with room for them all
 abbrev pub table-size : ℕ
-table-size = 149_249
+table-size = 397_313
+
+-- as many as two small texts have bytes, and the numbers of a table with room for them
+abbrev pub few-names : ℕ
+few-names = 8_192
+
+abbrev pub small-size : ℕ
+small-size = 28_673
 
 -- the most bytes of each text
 abbrev pub text-size : ℕ
 text-size = 65_536
-
--- every number of a table is below this
-abbrev pub limit : ℕ
-limit = 4_294_967_296
 
 abbrev pub factor : ℕ
 factor = 241
@@ -89,8 +97,8 @@ pub record Latest (name : ℕ → Bytes) (slot n link : ℕ) : Type 0 where
 pub record Table (program output : Bytes) (table : List ℕ) : Type 0 where
   pub program-size : length program ≤ text-size
   pub output-size : length output ≤ text-size
-  pub size : table-size ≤ length table
-  pub room : count table ≤ most-names
+  pub size : first-row ≤ length table
+  pub room : count table ≤ capacity (length table)
   pub distinct : Distinct (names-of program output table)
   pub heads : (slot : ℕ) → slot < slots → Latest (name-at program output table) slot (count table) (head table slot)
   pub links : (i : ℕ) → i < count table → Latest (name-at program output table) (slot-of (name-at program output table i)) i (link table i)
@@ -99,12 +107,12 @@ pub record Table (program output : Bytes) (table : List ℕ) : Type 0 where
 
 -- there is room for it, and what it holds fits
 pub record Addable (table : List ℕ) (slot : ℕ) (place : Place) : Type 0 where
-  pub size : table-size ≤ length table
-  pub room : count table < most-names
+  pub size : first-row ≤ length table
+  pub room : count table < capacity (length table)
   pub in-slots : slot < slots
-  pub start-fits : place .start < limit
-  pub len-fits : place .len < limit
-  pub link-fits : head table slot < limit
+  pub start-fits : place .start < number-limit
+  pub len-fits : place .len < number-limit
+  pub link-fits : head table slot < number-limit
 
 -- its link is its slot's head, and then the head is one more than its number
 unfoldable pub with-row : List ℕ → ℕ → Place → List ℕ

@@ -1,24 +1,29 @@
 // Names to numbers: the number of a name is its place in the list of the distinct names, in the order in which they are first met.
 // The bytes stay where they are, in the program or in the solver's output.
 ghost use mathlib.Core.Path.{_≡_};
-ghost use Rattle.meaning.specs.Values.{bytes-before};
-ghost use Rattle.names.specs.Texts.{bytes-at};
-ghost use Rattle.names.specs.Table.{Table, names-of, bytes-of, slot-of};
+ghost use lib.ListN.{length};
+ghost use Rattle.names.specs.Texts.{place-at, bytes-at};
+ghost use Rattle.names.specs.Table.{most-names, few-names, Table, names-of, bytes-of, slot-of};
 ghost use Rattle.names.specs.Numbering.{Empty, Finds, Interns};
-use bytewise::comes_before;
 use lexis::Place;
-use rule::name::same_bytes;
+use lexis::parts::same_bytes;
+use lexis::sizes::MOST_TEXT;
 use text::bytes_at;
 
 pub mod bytewise;
 mod table;
 pub mod text;
 
-// As many names as 256 rules of 17 atoms and 1,024 facts can have, 9 each.
-pub const MOST_NAMES: usize = 48_384;
+// As many names as the two texts have bytes: each name that is put in has one of its own.
+pub const MOST_NAMES: usize = 2 * MOST_TEXT;
 
-// The numbers that the caller lends for a table.
+// The numbers that a caller lends for a table.
 pub const TABLE: usize = table::FIRST_ROW + MOST_NAMES * table::ROW;
+
+// The most bytes of a small text, and the numbers of a table for two of them.
+pub const SMALL_TEXT: usize = 4096;
+
+pub const SMALL_TABLE: usize = table::FIRST_ROW + 2 * SMALL_TEXT * table::ROW;
 
 // Where a name is found.
 pub enum Found {
@@ -28,9 +33,16 @@ pub enum Found {
 
 // A table with no names, for any two texts within their size.
 pub fn empty() -> [u32; TABLE]
-    ensures { λ r. ⌜ Empty r ⌝ }
+    ensures { λ r. ⌜ Empty most-names r ⌝ }
 {
     [0; TABLE]
+}
+
+// .. and for two small ones: to clear the other table costs more than to read them.
+pub fn empty_small() -> [u32; SMALL_TABLE]
+    ensures { λ r. ⌜ Empty few-names r ⌝ }
+{
+    [0; SMALL_TABLE]
 }
 
 // The number of a name: the names of its slot are looked at, the last first.
@@ -49,12 +61,18 @@ fn seek<'a>(program: &'a [u8], output: &'a [u8], table: &[u32], name: &[u8], slo
     Found::Nothing
 }
 
-// The number of the name at a place, which is put behind the others where it is new. An empty one has none, and a full table takes no new one.
-pub fn intern<'a>(program: &'a [u8], output: &'a [u8], table: &mut [u32], place: Place) -> Found
-    requires { ⌜ Table (now program) (now output) (now table) ⌝ }
-    ensures { λ r. ⌜ Interns (now (program .entry)) (now (output .entry)) (now (table .entry)) (bytes-at (now (program .entry)) (now (output .entry)) place) (now (table .exit)) r ⌝ }
+// The number of a name, whose bytes start at `start`; it is put behind the others where it is new. An empty one has none, and a full table
+// takes no new one.
+pub fn intern<'a>(
+    program: &'a [u8],
+    output: &'a [u8],
+    table: &mut [u32],
+    name: &'a [u8],
+    start: usize,
+) -> Found
+    requires { ⌜ Table (now program) (now output) (now table) × (now name ≡ bytes-at (now program) (now output) (place-at start (length (now name)))) ⌝ }
+    ensures { λ r. ⌜ Interns (now (program .entry)) (now (output .entry)) (now (table .entry)) (now (name .entry)) (now (table .exit)) r ⌝ }
 {
-    let name = bytes_at(program, output, place);
     if name.len() == 0 {
         return Found::Nothing;
     }
@@ -64,10 +82,9 @@ pub fn intern<'a>(program: &'a [u8], output: &'a [u8], table: &mut [u32], place:
         return found;
     }
     let number = table::count(&*table);
-    if number == MOST_NAMES {
+    if number == table::capacity(&*table) {
         return Found::Nothing;
     }
-    let start = place.start;
     let len = name.len();
     table::add(table, slot, Place { start, len });
     Found::At(number)
@@ -82,21 +99,4 @@ pub fn bytes_of<'a>(program: &'a [u8], output: &'a [u8], table: &[u32], number: 
         return bytes_at(program, output, Place { start: 0, len: 0 });
     }
     bytes_at(program, output, table::place(table, number))
-}
-
-// Does the one name come before the other, by their bytes, a prefix first?
-pub fn name_before<'a>(
-    program: &'a [u8],
-    output: &'a [u8],
-    table: &[u32],
-    one: usize,
-    other: usize,
-) -> bool
-    requires { ⌜ Table (now program) (now output) (now table) ⌝ }
-    ensures { λ r. ⌜ r ≡ bytes-before (bytes-of (now (program .entry)) (now (output .entry)) (now (table .entry)) one) (bytes-of (now (program .entry)) (now (output .entry)) (now (table .entry)) other) ⌝ }
-{
-    comes_before(
-        bytes_of(program, output, table, one),
-        bytes_of(program, output, table, other),
-    )
 }

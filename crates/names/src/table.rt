@@ -1,9 +1,13 @@
 // The table of names, in one slice: how many there are, the head of each slot, and a row for each name.
 ghost use mathlib.Core.Path.{_≡_};
 ghost use Prim.Native.Nat.{_≤_, _<_};
-ghost use lib.ListN.{length, getD, set};
-ghost use Rattle.names.specs.Table.{slots, most-names, table-size, limit, slot-of, count, head, link, place-of, with-row, Addable};
+ghost use lib.ListN.{length};
+ghost use Rattle.names.specs.Table.{slots, first-row, capacity, slot-of, count, head, link, place-of, with-row, Addable};
+use crate::MOST_NAMES;
 use lexis::Place;
+use lexis::parts::least;
+use lexis::places::number_at;
+use lexis::places::put_number;
 
 const COUNT: usize = 0;
 
@@ -42,17 +46,17 @@ pub fn slot_of(name: &[u8]) -> usize
     slot
 }
 
-// The number at a place of the table.
-fn number_at(table: &[u32], at: usize) -> usize
-    requires { ⌜ at < length (now table) ⌝ }
-    ensures { λ r. ⌜ r ≡ getD (now (table .entry)) at 0 ⌝ }
+// How many names there is room for.
+pub fn capacity(table: &[u32]) -> usize
+    requires { ⌜ first-row ≤ length (now table) ⌝ }
+    ensures { λ r. ⌜ r ≡ capacity (length (now (table .entry))) ⌝ }
 {
-    table[at] as usize
+    least((table.len() - FIRST_ROW) / ROW, MOST_NAMES)
 }
 
 // How many names there are.
 pub fn count(table: &[u32]) -> usize
-    requires { ⌜ table-size ≤ length (now table) ⌝ }
+    requires { ⌜ first-row ≤ length (now table) ⌝ }
     ensures { λ r. ⌜ r ≡ count (now (table .entry)) ⌝ }
 {
     number_at(table, COUNT)
@@ -60,7 +64,7 @@ pub fn count(table: &[u32]) -> usize
 
 // One more than the number of the last name in a slot, or 0.
 pub fn head(table: &[u32], slot: usize) -> usize
-    requires { ⌜ (table-size ≤ length (now table)) × (slot < slots) ⌝ }
+    requires { ⌜ (first-row ≤ length (now table)) × (slot < slots) ⌝ }
     ensures { λ r. ⌜ r ≡ head (now (table .entry)) slot ⌝ }
 {
     number_at(table, slot + FIRST_HEAD)
@@ -68,7 +72,7 @@ pub fn head(table: &[u32], slot: usize) -> usize
 
 // One more than the number of the name before this one in its slot, or 0.
 pub fn link(table: &[u32], number: usize) -> usize
-    requires { ⌜ (table-size ≤ length (now table)) × (number < most-names) ⌝ }
+    requires { ⌜ number < capacity (length (now table)) ⌝ }
     ensures { λ r. ⌜ r ≡ link (now (table .entry)) number ⌝ }
 {
     number_at(table, FIRST_ROW + number * ROW + LINK)
@@ -76,7 +80,7 @@ pub fn link(table: &[u32], number: usize) -> usize
 
 // Where a name's bytes stand in the two texts.
 pub fn place(table: &[u32], number: usize) -> Place
-    requires { ⌜ (table-size ≤ length (now table)) × (number < most-names) ⌝ }
+    requires { ⌜ number < capacity (length (now table)) ⌝ }
     ensures { λ r. ⌜ r ≡ place-of (now (table .entry)) number ⌝ }
 {
     let at = FIRST_ROW + number * ROW;
@@ -84,14 +88,6 @@ pub fn place(table: &[u32], number: usize) -> Place
         start: number_at(table, at),
         len: number_at(table, at + LEN),
     }
-}
-
-// The number at a place of the table is another.
-fn put(table: &mut [u32], at: usize, number: usize)
-    requires { ⌜ (at < length (now table)) × (number < limit) ⌝ }
-    ensures { λ _. ⌜ now (table .exit) ≡ set (now (table .entry)) at number ⌝ }
-{
-    table[at] = number as u32;
 }
 
 // A row more, for a name at a place: its link is the head of its slot, and then the head is one more than its number.
@@ -102,9 +98,9 @@ pub fn add(table: &mut [u32], slot: usize, place: Place)
     let number = count(&*table);
     let link = head(&*table, slot);
     let at = FIRST_ROW + number * ROW;
-    put(table, at, place.start);
-    put(table, at + LEN, place.len);
-    put(table, at + LINK, link);
-    put(table, slot + FIRST_HEAD, number + 1);
-    put(table, COUNT, number + 1);
+    put_number(table, at, place.start);
+    put_number(table, at + LEN, place.len);
+    put_number(table, at + LINK, link);
+    put_number(table, slot + FIRST_HEAD, number + 1);
+    put_number(table, COUNT, number + 1);
 }

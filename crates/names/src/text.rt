@@ -2,7 +2,7 @@
 ghost use mathlib.Core.Path.{_≡_};
 ghost use Rattle.names.specs.Texts.{bytes-at};
 use lexis::Place;
-use rule::name::part;
+use lexis::parts::part;
 
 // The bytes of a place, a part of whichever text it starts in; of a place that reaches past that text, those that are there.
 pub fn bytes_at<'a>(program: &'a [u8], output: &'a [u8], place: Place) -> &'a [u8]

@@ -2,14 +2,14 @@
 use mathlib.Core.Path.{_≡_, refl, sym as inv, ap, subst, _∙_}
 use mathlib.Core.Bool.{true}
 use mathlib.Core.List.{List, [], _∷_}
-use Prim.Native.Nat.{ℕ, _+_, _-_, _≤_, _<_}
+use Prim.Native.Nat.{ℕ, _+_, _≤_, _<_}
 use native.Mathlib.Omega.{arith}
-use lib.ListN.{length, take, drop, length-take, length-drop}
+use lib.ListN.{length, length-take, length-drop}
 use Rattle.lexis.specs.declared.Place.{Place}
 use Rattle.lexis.specs.Tokens.{part}
 use Rattle.meaning.specs.Rules.{Bytes}
-use Rattle.grammar.specs.Trees.{count}
-use Rattle.rule.specs.Build.{noPlace}
+use Rattle.grammar.specs.Trees.{Program}
+use Rattle.lexis.specs.Places.{nowhere}
 use Rattle.sentences.proofs.Inside.{refused-inside}
 use Rattle.report.specs.declared.Report.{Report as ReportRead}
 use Rattle.report.specs.declared.word.Word.{Word}
@@ -19,51 +19,16 @@ use Rattle.report.specs.declared.around.Found.the-variants.{Nothing, Line}
 use Rattle.report.specs.Around.{OutOfPlace}
 use Rattle.report.specs.Report.{refused, found, reported, Reported, missing, stray, says}
 use Rattle.report.proofs.Inside.{reported-inside}
-use Rattle.stages.specs.Parts.{output, in-text, start-of}
-use Rattle.stages.specs.Stage.{on, stop, stops, goes, given, passed, read, fault}
+use Rattle.stages.specs.Parts.{output, Part, in-text, start-of}
+use Rattle.stages.specs.Stage.{on, stop, Stage, stops, goes, given, passed, read, fault}
+use Rattle.stages.proofs.Unique.{on-stop, on-inj}
+use Rattle.factline.specs.declared.line.FactsRead.{FactsRead}
+use Rattle.rows.proofs.Growth.{room-less}
+use Rattle.factline.specs.Lines.{Fillable, FillsLine, whole, refuses}
 use Rattle.output.specs.declared.OutputRead.{OutputRead}
-use Rattle.output.specs.declared.facts.FactsRead.{FactsRead}
-use Rattle.output.specs.Output.{Report, facts, most-bytes, Opened, Opening, opens, on-line, Closing, Behind}
-use Rattle.output.specs.Answers.{refused as refused-fields, reported as reported-fields, report-fields, GivenBy, ReadsOutput, ReadsLine, ReadsFacts, Closes}
-
--- ---- the facts line
-
-module _ (text : Bytes) (line : Place) (inside : line .start + line .len ≤ length text) where
-  -- its bytes, as the code cuts them out
-  abbrev bytes : Bytes
-  bytes = take (line .start + line .len - line .start) (drop (line .start) text)
-
-  bytes-part : bytes ≡ part text line
-  bytes-part =
-      let len : line .start + line .len - line .start ≡ line .len = omega arith in
-      ap (λ (n : ℕ). take n (drop (line .start) text)) len
-
-  line-length : length bytes ≡ line .len
-  line-length = rw bytes-part (simp (length-take, length-drop) (omega arith))
-
-  module _ (r : FactsRead) (g : ReadsLine bytes r) where
-    pub facts-whole : r .code ≡ 0 → ReadsFacts text line r
-    facts-whole e = go g
-      where
-        go : ReadsLine bytes r → ReadsFacts text line r
-        go (ReadsLine.whole c p fs n h) = ReadsFacts.whole c fs n (read fs (rw bytes-part at h))
-        go (ReadsLine.refuses c n h) = absurd (omega arith)
-
-    module _ (e : r .code ≡ 0 → ⊥) where
-      -- the fault lies on the line, and so in the output
-      pub fault-inside : line .start + r .place .start + r .place .len ≤ length text
-      fault-inside = go g
-        where
-          go : ReadsLine bytes r → line .start + r .place .start + r .place .len ≤ length text
-          go (ReadsLine.whole c p fs n h) = absurd (e c)
-          go (ReadsLine.refuses c n h) = omega (arith, refused-inside true bytes (r .code) (r .place) h, line-length)
-
-      pub facts-refused : ReadsFacts text line (record { code = r .code; place = on-line line (r .place); count = 0 })
-      facts-refused = go g
-        where
-          go : ReadsLine bytes r → ReadsFacts text line (record { code = r .code; place = on-line line (r .place); count = 0 })
-          go (ReadsLine.whole c p fs n h) = absurd (e c)
-          go (ReadsLine.refuses c n h) = ReadsFacts.refuses c (fault (r .code) (r .place) (rw bytes-part at h))
+use Rattle.output.specs.Output.{Report, facts, claim-none, claim-unknown, most-bytes, Opened, Opening, opens, on-line, Closing, Behind}
+use Rattle.output.specs.Answers.{refused as refused-fields, reported as reported-fields, report-fields, Closes}
+use Rattle.output.specs.Tables.{Tables, Lent, FactsHeld, Fills, FillsOutput}
 
 -- ---- the lines behind the report
 
@@ -74,34 +39,67 @@ module _ (text : Bytes) (at : ℕ) (f : Found) (o : OutOfPlace text at f) (befor
   pub closed-stray : (line : Place) → f ≡ Line line → (r : OutputRead) → r ≡ refused-fields 2 line → Closes text at before r
   closed-stray line e r q = Closes.stray line (rw e at o) q
 
-module _ (text : Bytes) (at : ℕ) (before : OutputRead) (x : Report) (e : before ≡ report-fields x) (r : OutputRead) where
-  pub closing-given : Closes text at before r → GivenBy (Closing x text at) r
-  closing-given (Closes.closes o q) = record { outcome = on x; stage = Closing.closes o; so = q ∙ e }
-  closing-given (Closes.stray line o q) = record { outcome = stop 2 (in-text output line); stage = Closing.stray line o; so = q }
+-- a report that claims only
+none-claims : (line : Place) (fs : Program true) → claim-none ≡ facts line fs → ⊥
+none-claims line fs e = let z : _≡_ {A = ℕ} 0 1 = cc in omega arith
 
--- ---- behind ANSWER
+unknown-claims : (line : Place) (fs : Program true) → claim-unknown ≡ facts line fs → ⊥
+unknown-claims line fs e = let z : _≡_ {A = ℕ} 0 1 = cc in omega arith
 
-module _ (text : Bytes) (line : Place) (next : ℕ) (f : FactsRead) (g : ReadsFacts text line f) where
-  pub answer-refused : (f .code ≡ 0 → ⊥) → (r : OutputRead) → r ≡ refused-fields (f .code) (f .place) → GivenBy (Behind text Answer line next) r
-  answer-refused e r q = go g
-    where
-      go : ReadsFacts text line f → GivenBy (Behind text Answer line next) r
-      go (ReadsFacts.whole c fs n h) = absurd (e c)
-      go (ReadsFacts.refuses c h) = record { outcome = stop (f .code) (in-text output (f .place)); stage = stops (f .code) (in-text output (f .place)) h; so = q }
+module _ (program text : Bytes) (t u : Tables) where
+  -- a refusal fills nothing
+  refusal-fills : {S : Stage Report} (n : ℕ) (p : Part) → S (stop n p) → (r : OutputRead) → r ≡ refused-fields n (p .place) → Fills S program text t r u
+  refusal-fills n p h r q = record { given = record { outcome = stop n p; stage = h; so = q }; filled = λ line fs e. absurd (on-stop (inv e)) }
 
-  pub answer-closed : f .code ≡ 0 → (before : OutputRead) → before ≡ reported-fields Answer line (f .count) → (r : OutputRead) → Closes text next before r → GivenBy (Behind text Answer line next) r
-  answer-closed e before q r k = go g
-    where
-      go : ReadsFacts text line f → GivenBy (Behind text Answer line next) r
-      go (ReadsFacts.whole c fs n h) =
-          let d = closing-given text next before (facts line fs) (q ∙ ap (reported-fields Answer line) (inv n)) r k in
-          record { outcome = d .outcome; stage = goes fs (d .outcome) h (d .stage); so = d .so }
-      go (ReadsFacts.refuses c h) = absurd (omega arith)
+  -- what has been read is a report, and where it has facts the tables hold them
+  module _ (at : ℕ) (before : OutputRead) (x : Report) (e : before ≡ report-fields x) (held : (line : Place) (fs : Program true) → x ≡ facts line fs → FactsHeld program text line fs t (before .count) u) (r : OutputRead) where
+    closing-fills : Closes text at before r → Fills (Closing x text at) program text t r u
+    closing-fills (Closes.closes o q) = record { given = record { outcome = on x; stage = Closing.closes o; so = q ∙ e }; filled = λ line fs y. rw q (held line fs (on-inj y)) }
+    closing-fills (Closes.stray line o q) = refusal-fills 2 (in-text output line) (Closing.stray line o) r q
+
+  pub closing-none : (at : ℕ) (before : OutputRead) → before ≡ report-fields claim-none → (r : OutputRead) → Closes text at before r → Fills (Closing claim-none text at) program text t r u
+  closing-none at before e r = closing-fills at before claim-none e (λ line fs y. absurd (none-claims line fs y)) r
+
+  pub closing-unknown : (at : ℕ) (before : OutputRead) → before ≡ report-fields claim-unknown → (r : OutputRead) → Closes text at before r → Fills (Closing claim-unknown text at) program text t r u
+  closing-unknown at before e r = closing-fills at before claim-unknown e (λ line fs y. absurd (unknown-claims line fs y)) r
+
+  -- ---- behind ANSWER
+
+  module _ (line : Place) (ask : Fillable program text line (t .names) (t .facts) (t .predicates) (t .starts) (t .lengths)) (f : FactsRead) (g : FillsLine program text line (t .names) (t .facts) (t .predicates) (t .starts) (t .lengths) f (u .names) (u .facts) (u .predicates) (u .starts) (u .lengths)) where
+    abbrev Line-read : Type 0
+    Line-read = FillsLine program text line (t .names) (t .facts) (t .predicates) (t .starts) (t .lengths) f (u .names) (u .facts) (u .predicates) (u .starts) (u .lengths)
+
+    line-length : length (part text line) ≤ line .len
+    line-length = simp (length-take, length-drop) (omega arith)
+
+    -- a place on the line lies in the output
+    pub on-line-small : line .start + f .place .start ≤ most-bytes
+    on-line-small = go g
+      where
+        go : Line-read → line .start + f .place .start ≤ most-bytes
+        go (whole c p fs h w) = let z : f .place .start ≡ 0 = ap (λ (x : Place). x .start) p in omega (arith, ask .inside, ask .room .in-order .output-size)
+        go (refuses c n h) = omega (arith, refused-inside true (part text line) (f .code) (f .place) h, line-length, ask .inside, ask .room .in-order .output-size)
+
+    pub answer-refused : (next : ℕ) → (f .code ≡ 0 → ⊥) → (place : Place) → place ≡ on-line line (f .place) → (r : OutputRead) → r ≡ refused-fields (f .code) place → Fills (Behind text Answer line next) program text t r u
+    answer-refused next e place p r q = go g
+      where
+        go : Line-read → Fills (Behind text Answer line next) program text t r u
+        go (whole c d fs h w) = absurd (e c)
+        go (refuses c n h) = refusal-fills (f .code) (in-text output (on-line line (f .place))) (stops _ _ (fault (f .code) (f .place) h)) r (q ∙ ap (refused-fields (f .code)) p)
+
+    pub answer-closed : (next : ℕ) → f .code ≡ 0 → (before : OutputRead) → before ≡ reported-fields Answer line (f .count) → (r : OutputRead) → Closes text next before r → Fills (Behind text Answer line next) program text t r u
+    answer-closed next e before q r k = go g
+      where
+        held : (fs : Program true) → FactsHeld program text line fs t (f .count) u → (l : Place) (gs : Program true) → facts line fs ≡ facts l gs → FactsHeld program text l gs t (before .count) u
+        held fs w l gs y = let a : line ≡ l = cc in let b : fs ≡ gs = cc in let n : before .count ≡ f .count = ap (λ (x : OutputRead). x .count) q in rw (← a, ← b, n) w
+
+        go : Line-read → Fills (Behind text Answer line next) program text t r u
+        go (whole c p fs h w) =
+            let d = closing-fills next before (facts line fs) (q ∙ ap (reported-fields Answer line) (w .size)) (held fs w) r k in
+            record { given = record { outcome = d .given .outcome; stage = goes fs (d .given .outcome) (read fs h) (d .given .stage); so = d .given .so }; filled = d .filled }
+        go (refuses c n h) = absurd (omega arith)
 
 -- ---- the whole
-
-pub too-long : (text : Bytes) → most-bytes < length text → (r : OutputRead) → r ≡ refused-fields 1 noPlace → ReadsOutput text r
-too-long text h r q = record { outcome = stop 1 (start-of output); stage = stops 1 (start-of output) (given h); so = q }
 
 -- a report is refused with 2, or found, and its other fields are the word, the facts line and the place behind
 pub data Shape (p : ReportRead) : Type 0 where
@@ -119,35 +117,41 @@ shape text (missing all) = is-refused refl
 shape text (stray line behind f n) = is-refused refl
 shape text (says line behind f word s) = said-shape text word behind
 
--- the facts line lies inside the output
-pub line-inside : (text : Bytes) (p : ReportRead) → Reported text p → p .facts .start + p .facts .len ≤ length text
-line-inside text p g = let i = reported-inside text g in omega arith
+-- the facts line lies inside the output, which is within its size
+pub line-fillable : (program text : Bytes) (t : Tables) → (most-bytes < length text → ⊥) → (p : ReportRead) → Reported text p → Lent program text t → Fillable program text (p .facts) (t .names) (t .facts) (t .predicates) (t .starts) (t .lengths)
+line-fillable program text t size p g lent =
+    let i = reported-inside text g in
+    let within : length text ≤ most-bytes = omega arith in
+    record { inside = omega arith; room = room-less program text (p .facts .len) (lent .room within) (omega arith); facts-long = lent .facts-long; predicates-long = lent .predicates-long; starts-long = lent .starts-long; lengths-long = lent .lengths-long }
 
-module _ (text : Bytes) (size : most-bytes < length text → ⊥) (p : ReportRead) (g : Reported text p) where
-  pub opening-refused : (p .code ≡ 0 → ⊥) → (r : OutputRead) → r ≡ refused-fields (p .code) (p .place) → ReadsOutput text r
-  opening-refused e r q = go (shape text g)
-    where
-      go : Shape p → ReadsOutput text r
-      go (is-refused s) =
-          let part = in-text output (p .place) in
-          let two : p .code ≡ 2 = ap (λ (x : ReportRead). x .code) s in
-          record {
-            outcome = stop 2 part;
-            stage = goes tt (stop 2 part) (passed size) (stops 2 part (Opening.refuses (p .place) (subst (Reported text) s g)));
-            so = q ∙ ap (λ (n : ℕ). refused-fields n (p .place)) two;
-          }
-      go (is-found s) = absurd (e (ap (λ (x : ReportRead). x .code) s))
+module _ (program text : Bytes) (t u : Tables) where
+  pub too-long : most-bytes < length text → (r : OutputRead) → r ≡ refused-fields 1 nowhere → FillsOutput program text t r u
+  too-long h r q = refusal-fills program text t u 1 (start-of output) (stops 1 (start-of output) (given h)) r q
 
-  pub goes-behind : p .code ≡ 0 → (word : Word) → p .word ≡ word → (r : OutputRead) → GivenBy (Behind text word (p .facts) (p .next)) r → ReadsOutput text r
-  goes-behind e word w r d = go (shape text g)
-    where
-      go : Shape p → ReadsOutput text r
-      go (is-refused s) = absurd (let z : p .code ≡ 2 = ap (λ (x : ReportRead). x .code) s in omega arith)
-      go (is-found s) =
-          let o : Opened = record { word = p .word; line = p .facts; next = p .next } in
-          let b : GivenBy (Behind text (p .word) (p .facts) (p .next)) r = subst (λ (v : Word). GivenBy (Behind text v (p .facts) (p .next)) r) (inv w) d in
-          record {
-            outcome = b .outcome;
-            stage = goes tt (b .outcome) (passed size) (goes o (b .outcome) (opens o (subst (Reported text) s g)) (b .stage));
-            so = b .so;
-          }
+  module _ (size : most-bytes < length text → ⊥) (p : ReportRead) (g : Reported text p) where
+    pub opening-refused : (p .code ≡ 0 → ⊥) → (r : OutputRead) → r ≡ refused-fields (p .code) (p .place) → FillsOutput program text t r u
+    opening-refused e r q = go (shape text g)
+      where
+        go : Shape p → FillsOutput program text t r u
+        go (is-refused s) =
+            let part = in-text output (p .place) in
+            let two : p .code ≡ 2 = ap (λ (x : ReportRead). x .code) s in
+            refusal-fills program text t u 2 part (goes tt (stop 2 part) (passed size) (stops 2 part (Opening.refuses (p .place) (subst (Reported text) s g)))) r (q ∙ ap (λ (n : ℕ). refused-fields n (p .place)) two)
+        go (is-found s) = absurd (e (ap (λ (x : ReportRead). x .code) s))
+
+    pub goes-behind : p .code ≡ 0 → (word : Word) → p .word ≡ word → (r : OutputRead) → Fills (Behind text word (p .facts) (p .next)) program text t r u → FillsOutput program text t r u
+    goes-behind e word w r d = go (shape text g)
+      where
+        go : Shape p → FillsOutput program text t r u
+        go (is-refused s) = absurd (let z : p .code ≡ 2 = ap (λ (x : ReportRead). x .code) s in omega arith)
+        go (is-found s) =
+            let o : Opened = record { word = p .word; line = p .facts; next = p .next } in
+            let b : Fills (Behind text (p .word) (p .facts) (p .next)) program text t r u = subst (λ (v : Word). Fills (Behind text v (p .facts) (p .next)) program text t r u) (inv w) d in
+            record {
+              given = record {
+                outcome = b .given .outcome;
+                stage = goes tt (b .given .outcome) (passed size) (goes o (b .given .outcome) (opens o (subst (Reported text) s g)) (b .given .stage));
+                so = b .given .so;
+              };
+              filled = b .filled;
+            }

@@ -1,5 +1,5 @@
 -- What a caller makes of an output that has been read.
-use mathlib.Core.Path.{_≡_, refl, ap}
+use mathlib.Core.Path.{_≡_, refl, ap, _∙_}
 use mathlib.Core.Bool.{true}
 use Prim.Native.Nat.{ℕ, _+_, _≤_, _<_}
 use native.Mathlib.Omega.{arith}
@@ -25,6 +25,7 @@ use Rattle.stages.specs.Stage.{Outcome, on, stop, Refuse, stops, goes, given, p
 use Rattle.output.specs.declared.OutputRead.{OutputRead}
 use Rattle.output.specs.Output.{Report, facts, claim-none, claim-unknown, most-bytes, Opened, Opening, refuses, opens, Facts, Closing, closes, stray, Behind, OutputStage}
 use Rattle.output.specs.Answers.{fields, ReadsOutput}
+use Rattle.output.specs.Tables.{Tables, FactsHeld, FillsOutput}
 
 -- ---- a refusal: its number is one, and its part is a part of the output
 
@@ -124,3 +125,20 @@ module _ (text : Bytes) (r : OutputRead) (g : ReadsOutput text r) where
       go (on claim-none) s e = rw e s
       go (on claim-unknown) s e = rw e s
       go (stop m p) s e = absurd (let k = refusal text s .number in let q : r .code ≡ m = ap (λ (x : OutputRead). x .code) e in omega arith)
+
+-- ANSWER: the facts of its line, which the tables hold
+pub record Answering (program text : Bytes) (line : Place) (n : ℕ) (t u : Tables) : Type 0 where
+  pub tree-of : Program true
+  pub stage : OutputStage text (on (facts line tree-of))
+  pub held : FactsHeld program text line tree-of t n u
+
+pub output-answers : (program text : Bytes) (t : Tables) (r : OutputRead) (u : Tables) → FillsOutput program text t r u → r .code ≡ 0 → r .word ≡ Answer → Answering program text (r .line) (r .count) t u
+output-answers program text t r u g z w = go (g .given .outcome) refl
+  where
+    go : (o : Outcome Report) → g .given .outcome ≡ o → Answering program text (r .line) (r .count) t u
+    go (on (facts line fs)) e =
+        let q : r .line ≡ line = ap (λ (x : OutputRead). x .line) (g .given .so ∙ ap fields e) in
+        record { tree-of = fs; stage = rw q (rw e at (g .given .stage)); held = rw q (g .filled line fs e) }
+    go (on claim-none) e = absurd (let q : r .word ≡ Inconsistent = ap (λ (x : OutputRead). x .word) (g .given .so ∙ ap fields e) in let y : _≡_ {A = ℕ} 0 1 = cc in omega arith)
+    go (on claim-unknown) e = absurd (let q : r .word ≡ Unknown = ap (λ (x : OutputRead). x .word) (g .given .so ∙ ap fields e) in let y : _≡_ {A = ℕ} 0 1 = cc in omega arith)
+    go (stop m p) e = absurd (let k = refusal text (rw e at (g .given .stage)) .number in let q : r .code ≡ m = ap (λ (x : OutputRead). x .code) (g .given .so ∙ ap fields e) in omega arith)

@@ -1,4 +1,4 @@
 -- In the order to read them in.
 pub mod Output
 pub mod Answers
-pub mod Places
+pub mod Tables

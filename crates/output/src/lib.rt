@@ -1,31 +1,25 @@
 // The solver's output as a whole: its report, the facts line behind ANSWER, and the lines behind the report.
 ghost use mathlib.Core.Path.{_≡_};
 ghost use Prim.Native.Nat.{_+_, _≤_};
-ghost use lib.ListN.{length};
 ghost use Rattle.report.specs.declared.word.Word.the-variants.{Answer};
-ghost use Rattle.output.specs.Output.{Behind};
-ghost use Rattle.output.specs.Answers.{refused, reported, GivenBy, ReadsOutput, ReadsFacts, Closes};
-use facts::FactsRead;
-use facts::read_line;
+ghost use Rattle.factline.specs.Lines.{Fillable};
+ghost use Rattle.output.specs.Output.{most-bytes, on-line, Behind};
+ghost use Rattle.output.specs.Answers.{refused, reported, Closes};
+ghost use Rattle.output.specs.Tables.{tables, Lent, Fills, FillsOutput};
+use factline::line::read_line;
+use lexis::NOWHERE;
 use lexis::Place;
+use lexis::sizes::MOST_TEXT;
 use report::around::Found;
 use report::around::out_of_place;
 use report::find_report;
 use report::word::Word;
-
-pub mod facts;
-pub mod places;
-
-// The most bytes of an output.
-const MOST_BYTES: usize = 65536;
 
 // The refusal of an output that has more.
 const TOO_LONG: u8 = 1;
 
 // The refusal for a line out of place.
 const OUT_OF_PLACE: u8 = 2;
-
-const NO_PLACE: Place = Place { start: 0, len: 0 };
 
 // What an output says. A refusal has its code and its place; else the code is 0, the place is empty, and the other fields hold
 // the report's word, and with ANSWER the facts line and the number of its facts.
@@ -44,7 +38,7 @@ fn refused(code: u8, place: Place) -> OutputRead
         code,
         place,
         word: Word::Unknown,
-        line: NO_PLACE,
+        line: NOWHERE,
         count: 0,
     }
 }
@@ -54,32 +48,21 @@ fn reported(word: Word, line: Place, count: usize) -> OutputRead
 {
     OutputRead {
         code: 0,
-        place: NO_PLACE,
+        place: NOWHERE,
         word,
         line,
         count,
     }
 }
 
-// The facts of the facts line: their number; or the refusal, with its place in the output.
-fn read_facts(output: &[u8], line: Place) -> FactsRead
-    requires { ⌜ line .start + line .len ≤ length (now output) ⌝ }
-    ensures { λ r. ⌜ ReadsFacts (now (output .entry)) line r ⌝ }
+// A place on a line, as a place of the output.
+fn on_line(line: Place, place: Place) -> Place
+    requires { ⌜ line .start + place .start ≤ most-bytes ⌝ }
+    ensures { λ r. ⌜ r ≡ on-line line place ⌝ }
 {
-    let start = line.start;
-    let end = start + line.len;
-    let read = read_line(&output[start..end]);
-    if read.code == 0 {
-        return read;
-    }
-    let place = read.place;
-    FactsRead {
-        code: read.code,
-        place: Place {
-            start: start + place.start,
-            len: place.len,
-        },
-        count: 0,
+    Place {
+        start: line.start + place.start,
+        len: place.len,
     }
 }
 
@@ -94,25 +77,54 @@ fn closed(output: &[u8], at: usize, read: OutputRead) -> OutputRead
     }
 }
 
-// Behind ANSWER: the facts line, and from `next` on the lines behind it.
-fn answered(output: &[u8], line: Place, next: usize) -> OutputRead
-    requires { ⌜ line .start + line .len ≤ length (now output) ⌝ }
-    ensures { λ r. ⌜ GivenBy (Behind (now (output .entry)) Answer line next) r ⌝ }
+// Behind ANSWER: the facts line, whose facts go into the tables, and from `next` on the lines behind it.
+fn answered<'a>(
+    program: &'a [u8],
+    output: &'a [u8],
+    line: Place,
+    next: usize,
+    names: &mut [u32],
+    facts: &mut [u64],
+    predicates: &mut [u64],
+    starts: &mut [u32],
+    lengths: &mut [u32],
+) -> OutputRead
+    requires { ⌜ Fillable (now program) (now output) line (now names) (now facts) (now predicates) (now starts) (now lengths) ⌝ }
+    ensures { λ r. ⌜ Fills (Behind (now (output .entry)) Answer line next) (now (program .entry)) (now (output .entry)) (tables (now (names .entry)) (now (facts .entry)) (now (predicates .entry)) (now (starts .entry)) (now (lengths .entry))) r (tables (now (names .exit)) (now (facts .exit)) (now (predicates .exit)) (now (starts .exit)) (now (lengths .exit))) ⌝ }
 {
-    let facts = read_facts(output, line);
-    if facts.code != 0 {
-        let place = facts.place;
-        return refused(facts.code, place);
+    let read = read_line(
+        program,
+        output,
+        line,
+        names,
+        facts,
+        predicates,
+        starts,
+        lengths,
+    );
+    if read.code != 0 {
+        let place = read.place;
+        return refused(read.code, on_line(line, place));
     }
-    closed(output, next, reported(Word::Answer, line, facts.count))
+    closed(output, next, reported(Word::Answer, line, read.count))
 }
 
-// The whole output: 1; the leftmost of 2, 3 and 4; or the report, with the facts line and the number of facts behind ANSWER.
-pub fn read_output(output: &[u8]) -> OutputRead
-    ensures { λ r. ⌜ ReadsOutput (now (output .entry)) r ⌝ }
+// The whole output: 1; the leftmost of 2, 3 and 4; or the report, and behind ANSWER the facts line and its facts, which go into
+// the tables: their rows, with their names numbered behind the program's; their predicates; where they start, and how long they are.
+pub fn read_output<'a>(
+    program: &'a [u8],
+    output: &'a [u8],
+    names: &mut [u32],
+    facts: &mut [u64],
+    predicates: &mut [u64],
+    starts: &mut [u32],
+    lengths: &mut [u32],
+) -> OutputRead
+    requires { ⌜ Lent (now program) (now output) (tables (now names) (now facts) (now predicates) (now starts) (now lengths)) ⌝ }
+    ensures { λ r. ⌜ FillsOutput (now (program .entry)) (now (output .entry)) (tables (now (names .entry)) (now (facts .entry)) (now (predicates .entry)) (now (starts .entry)) (now (lengths .entry))) r (tables (now (names .exit)) (now (facts .exit)) (now (predicates .exit)) (now (starts .exit)) (now (lengths .exit))) ⌝ }
 {
-    if MOST_BYTES < output.len() {
-        return refused(TOO_LONG, NO_PLACE);
+    if MOST_TEXT < output.len() {
+        return refused(TOO_LONG, NOWHERE);
     }
     let report = find_report(output);
     if report.code != 0 {
@@ -123,8 +135,18 @@ pub fn read_output(output: &[u8]) -> OutputRead
     let line = report.facts;
     let next = report.next;
     match word {
-        Word::Answer => answered(output, line, next),
-        Word::Inconsistent => closed(output, next, reported(Word::Inconsistent, NO_PLACE, 0)),
-        Word::Unknown => closed(output, next, reported(Word::Unknown, NO_PLACE, 0)),
+        Word::Answer => answered(
+            program,
+            output,
+            line,
+            next,
+            names,
+            facts,
+            predicates,
+            starts,
+            lengths,
+        ),
+        Word::Inconsistent => closed(output, next, reported(Word::Inconsistent, NOWHERE, 0)),
+        Word::Unknown => closed(output, next, reported(Word::Unknown, NOWHERE, 0)),
     }
 }

@@ -1,9 +1,16 @@
 // A program's plain form, written into a lent buffer.
+ghost use Prim.Native.Nat.{min};
+ghost use lib.ListN.{length};
+ghost use Rattle.names.specs.Table.{most-names};
+ghost use Rattle.names.specs.Numbering.{Empty};
 ghost use Rattle.plaintokens.specs.Promise.{Readable};
 ghost use Rattle.plain.specs.Answer.{AnswersPlain, Writes};
 use lexis::Place;
+use names::SMALL_TEXT;
 use plaintokens::write_tokens;
 use program::read_program;
+use program::space::literal_table;
+use program::space::rule_table;
 
 // The writer's answer: the number of a refusal and its part of the program; or 0, and the length of the plain form.
 pub struct Written {
@@ -46,11 +53,15 @@ fn write_read(program: &[u8], buffer: &mut [u8]) -> Written
     }
 }
 
-// The plain form of a program, at the buffer's start; or the refusal of the program, or of a buffer that is shorter.
-pub fn write_plain(program: &[u8], buffer: &mut [u8]) -> Written
+// The answer, with a table for the names of the program.
+fn with_names(program: &[u8], names: &mut [u32], buffer: &mut [u8]) -> Written
+    requires { ⌜ Empty (min most-names (length (now program))) (now names) ⌝ }
     ensures { λ r. ⌜ Writes (now (program .entry)) (now (buffer .entry)) r (now (buffer .exit)) ⌝ }
 {
-    let read = read_program(program);
+    let mut rules = rule_table();
+    let mut literals = literal_table();
+    // There is no output; the program stands where its names would be looked for.
+    let read = read_program(program, program, names, &mut rules, &mut literals);
     let place = read.place;
     if read.code != 0 {
         return Written {
@@ -60,4 +71,16 @@ pub fn write_plain(program: &[u8], buffer: &mut [u8]) -> Written
         };
     }
     write_read(program, buffer)
+}
+
+// The plain form of a program, at the buffer's start; or the refusal of the program, or of a buffer that is shorter.
+pub fn write_plain(program: &[u8], buffer: &mut [u8]) -> Written
+    ensures { λ r. ⌜ Writes (now (program .entry)) (now (buffer .entry)) r (now (buffer .exit)) ⌝ }
+{
+    if program.len() <= SMALL_TEXT {
+        let mut names = names::empty_small();
+        return with_names(program, &mut names, buffer);
+    }
+    let mut names = names::empty();
+    with_names(program, &mut names, buffer)
 }

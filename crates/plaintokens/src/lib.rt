@@ -9,12 +9,12 @@ ghost use Rattle.plaintokens.specs.PlainText.{spelled, unless};
 use lexis::kind::ALSO_UNEQUAL;
 use lexis::kind::DOT;
 use lexis::kind::END;
+use lexis::parts::part;
 use lexis::run::byte_at;
 use neighbours::left_out;
 use neighbours::runs_together;
 use put::put_byte;
 use put::put_bytes;
-use rule::name::part;
 use syntax::token::TokenRead;
 use syntax::token::token_at;
 

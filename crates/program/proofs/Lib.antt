@@ -1,8 +1,11 @@
 pub mod Segments
 pub mod Remembered
-pub mod Looked
-pub mod Loop
 pub mod Unique
 pub mod Taken
+pub mod Numbered
 pub mod Spelled
 pub mod Safe
+pub mod Puts
+pub mod Growing
+pub mod Filled
+pub mod Loop

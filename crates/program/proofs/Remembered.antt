@@ -20,10 +20,10 @@ use Rattle.meaning.specs.Rules.{Rule}
 use Rattle.meaning.specs.Safety.{bound}
 use Rattle.meaning.proofs.Safety.{scan-exact}
 use Rattle.grammar.specs.Sizes.{programs}
-use Rattle.rule.specs.Build.{noPlace}
+use Rattle.lexis.specs.Places.{nowhere}
 use Rattle.syntax.specs.Ahead.{ends-rule, firsts}
-use Rattle.safety.specs.declared.Unbound.{Unbound as Found}
-use Rattle.safety.specs.Unbound.{FirstUnbound, found, all-bound}
+use Rattle.rulesafety.specs.declared.unbound.Unbound.{Unbound as Found}
+use Rattle.rulesafety.specs.Unbound.{FirstUnbound, found, all-bound}
 use Rattle.program.specs.Unbound.{Tokens, dots, met-behind, Unbound}
 use Rattle.program.proofs.Segments.{FirstAt, first-of, number-of-first, first-order, standing, first-standing, to-dot, before-or-behind, first-inside}
 
@@ -64,9 +64,9 @@ behind {A} (a ∷ l) m (b ∷ l′) m′ e h = go (behind l m l′ m′)
 
 pub data Remembered (rules : List (Rule Value)) (ts : Tokens) (end : Place) (n : ℕ) (u : Found) : Type 0 where
   first-case : (i : ℕ) → Unbound rules ts i 5 → ((j m : ℕ) → Unbound rules ts j m → i ≤ j) → u ≡ record { found = true; place = place-at end ts i } → Remembered rules ts end n u
-  no-case : ((j m : ℕ) → Unbound rules ts j m → n ≤ j) → u ≡ record { found = false; place = noPlace } → Remembered rules ts end n u
+  no-case : ((j m : ℕ) → Unbound rules ts j m → n ≤ j) → u ≡ record { found = false; place = nowhere } → Remembered rules ts end n u
 
-pub remembered-start : (rules : List (Rule Value)) (ts : Tokens) (end : Place) → Remembered rules ts end 0 (record { found = false; place = noPlace })
+pub remembered-start : (rules : List (Rule Value)) (ts : Tokens) (end : Place) → Remembered rules ts end 0 (record { found = false; place = nowhere })
 remembered-start rules ts end = no-case (λ j m x. omega arith) refl
 
 -- a rule behind the tokens `before`, which are those of the rules rs
@@ -135,13 +135,13 @@ module _ (rs more : List (Rule Value)) (rule : Rule Value) (before ahead : Token
 
   -- where this rule has an unbound variable, the first of them is the first case
   module _ (end : Place) (none-before : (j m : ℕ) → Unbound rules ts j m → length before ≤ j) where
-    remember-found : (r : Found) (x : ℕ) → x < length (firsts [] ahead) → bound rule x ≡ false → ((y : ℕ) → y < x → bound rule y ≡ true) → r ≡ record { found = true; place = getD (firsts [] ahead) x noPlace } → (n : ℕ) → Remembered rules ts end n r
+    remember-found : (r : Found) (x : ℕ) → x < length (firsts [] ahead) → bound rule x ≡ false → ((y : ℕ) → y < x → bound rule y ≡ true) → r ≡ record { found = true; place = getD (firsts [] ahead) x nowhere } → (n : ℕ) → Remembered rules ts end n r
     remember-found r x h u low e n = first-case (length before + f .0) (case-of (f .0) x _ at-x u) (λ j m c. first j (in-rule j m c (none-before j m c))) (e ∙ ap (λ p. record { found = true; place = p }) (inv (place-of-case end (f .0) x _ at-x)))
       where
-        f : (i : ℕ) × FirstAt [] ahead i (0 + x) (getD (firsts [] ahead) x noPlace)
-        f = first-of [] ahead x noPlace h
+        f : (i : ℕ) × FirstAt [] ahead i (0 + x) (getD (firsts [] ahead) x nowhere)
+        f = first-of [] ahead x nowhere h
 
-        at-x : FirstAt [] ahead (f .0) x (getD (firsts [] ahead) x noPlace)
+        at-x : FirstAt [] ahead (f .0) x (getD (firsts [] ahead) x nowhere)
         at-x = let z : 0 + x ≡ x = omega arith in rw z at (f .1)
 
         not-lower : (j : ℕ) (c : InRule j) → x ≤ c .variable
@@ -155,7 +155,7 @@ module _ (rs more : List (Rule Value)) (rule : Rule Value) (before ahead : Token
         first j (inl c) = omega (arith, c .same, first-order [] ahead (f .0) (c .position) x (c .variable) _ (c .place) at-x (c .first) (not-lower j c))
         first j (inr l) = omega (arith, first-inside [] ahead (f .0) x _ at-x)
 
-    remember-bound : (r : Found) → ((x : ℕ) → x < length (firsts [] ahead) → bound rule x ≡ true) → r ≡ record { found = false; place = noPlace } → Remembered rules ts end (length before + length (to-dot ahead)) r
+    remember-bound : (r : Found) → ((x : ℕ) → x < length (firsts [] ahead) → bound rule x ≡ true) → r ≡ record { found = false; place = nowhere } → Remembered rules ts end (length before + length (to-dot ahead)) r
     remember-bound r all e = no-case (λ j m c. later j (in-rule j m c (none-before j m c))) e
       where
         later : (j : ℕ) → InRule j ⊎ (length before + length (to-dot ahead) ≤ j) → length before + length (to-dot ahead) ≤ j

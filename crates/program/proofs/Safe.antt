@@ -22,17 +22,16 @@ use Rattle.grammar.specs.Sizes.{programs}
 use Rattle.grammar.specs.Moves.{symbol-number, token-number}
 use Rattle.grammar.specs.Abstraction.{rule-for, rules-for}
 use Rattle.grammar.proofs.Variables.{met-seen}
-use Rattle.rule.specs.Build.{noPlace}
+use Rattle.lexis.specs.Places.{nowhere}
 use Rattle.syntax.specs.Ahead.{firsts}
 use Rattle.syntax.specs.Text.{end-of}
-use Rattle.syntax.specs.Written.{rule-variables}
-use Rattle.syntax.proofs.Numbered.{every-more, rule-below}
-use Rattle.safety.proofs.Safe.{safe-of-bound}
+use Rattle.rulesafety.proofs.Safe.{safe-of-bound}
 use Rattle.stages.specs.Stage.{on}
 use Rattle.program.specs.Unbound.{Tokens, dots, met-behind, Unbound}
 use Rattle.program.specs.Stage.{tokens-of, ProgramStage}
 use Rattle.program.proofs.Segments.{Meeting, ends, meets, passes, meeting, firsts-ends, firsts-meets, firsts-passes, first-of}
 use Rattle.program.proofs.Remembered.{same-cons, case-of}
+use Rattle.program.proofs.Numbered.{rule-variables, every-on, rule-below}
 use Rattle.program.proofs.Spelled.{dots-in, dots-unplaced, dots-in-append, Dotted, dotted}
 use Rattle.program.proofs.Taken.{read-is-read}
 
@@ -134,7 +133,7 @@ module _ (p : Program false) (r : Rule false) (rest : List Token) (more : List (
       is-bound : (y : ℕ) → y < length (rule-variables r) → (b : Bool) → bound (rule-for r) y ≡ b → bound (rule-for r) y ≡ true
       is-bound y h true k = k
       is-bound y h false k =
-          let f = first-of [] (s .ahead) y noPlace (omega (arith, many)) in
+          let f = first-of [] (s .ahead) y nowhere (omega (arith, many)) in
           let z : 0 + y ≡ y = omega arith in
           let new : met-behind (s .before) ≡ [] = ap (seen programs []) (s .its-tokens) ∙ behind-rules p .1 in
           let ended : dots (s .before) ≡ length (rules-for p) = dots-unplaced (s .before) ∙ ap dots-in (s .its-tokens) ∙ behind-rules p .0 in
@@ -147,7 +146,7 @@ rules-safe (p then r) rest more ts e none =
     let m = Mark.rule (suc (count p)) in
     let f : unplaced ts ≡ tokens (spell p) ++ (tokens (spell-rule m r) ++ rest) = e ∙ ap (λ l. l ++ rest) (tokens-append (spell p) (spell-rule m r)) ∙ append-assoc (tokens (spell p)) (tokens (spell-rule m r)) rest in
     let g : NoneUnbound (rules-for p ++ rule-for r ∷ more) ts = rw (append-assoc (rules-for p) (rule-for r ∷ []) more) at none in
-    every-more safe (rules-for p) (rule-for r) (rules-safe p (tokens (spell-rule m r) ++ rest) (rule-for r ∷ more) ts f g) (rule-safe p r rest more ts f g)
+    every-on safe (rules-for p) (rule-for r) (rules-safe p (tokens (spell-rule m r) ++ rest) (rule-for r ∷ more) ts f g) (rule-safe p r rest more ts f g)
 
 its-spelling : (text : Bytes) (c : Program false) (a : Answer Place (Program false)) → a ≡ tree c → Reading programs (end-of text) (tokens-of text) a → unplaced (tokens-of text) ≡ tokens (spell c)
 its-spelling text c a e (Reading.read d s w) = let z : d ≡ c = cc in rw (← z) (inv s)

@@ -15,10 +15,10 @@ use Rattle.grammar.specs.Variables.{meet-symbol, meet, met}
 use Rattle.grammar.specs.Moves.{symbol-number, token-number}
 use Rattle.grammar.proofs.Variables.{met-append, met-atom}
 use Rattle.syntax.specs.Ahead.{ends-rule}
-use Rattle.syntax.specs.Written.{head-variables, rule-variables}
 use Rattle.syntax.proofs.Lists.{met-then}
 use Rattle.program.specs.Unbound.{Tokens, dots}
 use Rattle.program.proofs.Segments.{comparison-goes}
+use Rattle.program.proofs.Numbered.{head-variables, rule-variables}
 
 -- how many dots there are in a spelling
 unfoldable pub dots-in : List Token → ℕ

@@ -2,7 +2,7 @@
 use mathlib.Core.Path.{_≡_, refl, sym as inv, ap}
 use mathlib.Core.Bool.{Bool, true, false}
 use mathlib.Core.Logic.{_⊎_, inl, inr}
-use mathlib.Core.List.{[]}
+use mathlib.Core.List.{List, []}
 use Prim.Native.Nat.{ℕ, suc, _≤_, _<_}
 use native.Mathlib.Omega.{arith}
 use lib.Dec.{ltb}
@@ -12,7 +12,7 @@ use Rattle.lexis.specs.declared.Place.{Place}
 use Rattle.reading.specs.Reading.{Marked, unplaced, seen, Answer, tree, refused, Reading}
 use Rattle.meaning.specs.Rules.{Bytes}
 use Rattle.grammar.specs.Tokens.{Token}
-use Rattle.grammar.specs.Trees.{count, Program}
+use Rattle.grammar.specs.Trees.{Program}
 use Rattle.grammar.specs.Spelling.{Mark}
 use Rattle.grammar.specs.Variables.{Variables}
 use Rattle.grammar.specs.Sizes.{refusal, fault, programs}
@@ -24,6 +24,7 @@ use Rattle.stages.proofs.Unique.{on-stop, on-inj}
 use Rattle.program.specs.declared.ProgramRead.{ProgramRead}
 use Rattle.program.specs.Unbound.{Unbound}
 use Rattle.program.specs.Stage.{most-text, tokens-of, token-part, ProgramStage}
+use Rattle.program.specs.Rules.{FillsRules}
 use Rattle.program.specs.Answer.{fields, ReadsProgram}
 
 -- ---- a text that is read
@@ -128,18 +129,20 @@ module _ (text : Bytes) where
 
 -- ---- the answer's fields
 
-pub taken-where-zero : (text : Bytes) (r : ProgramRead) → ReadsProgram text r → r .code ≡ 0 → (c : Program false) × ProgramStage text (on c) × (r .count ≡ count c)
-unfolding fields
-taken-where-zero text r g z = go (g .outcome) (g .reads) (g .so)
-  where
-    go : (o : Outcome (Program false)) → ProgramStage text o → r ≡ fields o → (c : Program false) × ProgramStage text (on c) × (r .count ≡ count c)
-    go (on c) h e = (c, h, ap (λ x. x .count) e)
-    go (stop n p) h e = absurd (omega (arith, refused-between text n p h .0, ap (λ x. x .code) e))
+module _ {text output : Bytes} {names rules literals names′ rules′ literals′ : List ℕ} {r : ProgramRead} (g : ReadsProgram text output names rules literals r names′ rules′ literals′) where
+  -- a program that is read, and its rules in the tables
+  pub taken-where-zero : r .code ≡ 0 → (c : Program false) × ProgramStage text (on c) × FillsRules text output names rules literals c (r .count) names′ rules′ literals′
+  unfolding fields
+  taken-where-zero z = go (g .outcome) (g .reads) (g .so) (g .filled)
+    where
+      go : (o : Outcome (Program false)) → ProgramStage text o → r ≡ fields o → ((c : Program false) → o ≡ on c → FillsRules text output names rules literals c (r .count) names′ rules′ literals′) → (c : Program false) × ProgramStage text (on c) × FillsRules text output names rules literals c (r .count) names′ rules′ literals′
+      go (on c) h e f = (c, h, f c refl)
+      go (stop n p) h e f = absurd (omega (arith, refused-between text n p h .0, ap (λ x. x .code) e))
 
-pub refused-elsewhere : (text : Bytes) (r : ProgramRead) → ReadsProgram text r → (r .code ≡ 0 → ⊥) → (p : Part) × ProgramStage text (stop (r .code) p) × (r .place ≡ p .place)
-unfolding fields
-refused-elsewhere text r g z = go (g .outcome) (g .reads) (g .so)
-  where
-    go : (o : Outcome (Program false)) → ProgramStage text o → r ≡ fields o → (p : Part) × ProgramStage text (stop (r .code) p) × (r .place ≡ p .place)
-    go (on c) h e = absurd (z (ap (λ x. x .code) e))
-    go (stop n p) h e = let y : r .code ≡ n = ap (λ x. x .code) e in (p, rw y h, ap (λ x. x .place) e)
+  pub refused-elsewhere : (r .code ≡ 0 → ⊥) → (p : Part) × ProgramStage text (stop (r .code) p) × (r .place ≡ p .place)
+  unfolding fields
+  refused-elsewhere z = go (g .outcome) (g .reads) (g .so)
+    where
+      go : (o : Outcome (Program false)) → ProgramStage text o → r ≡ fields o → (p : Part) × ProgramStage text (stop (r .code) p) × (r .place ≡ p .place)
+      go (on c) h e = absurd (z (ap (λ x. x .code) e))
+      go (stop n p) h e = let y : r .code ≡ n = ap (λ x. x .code) e in (p, rw y h, ap (λ x. x .place) e)

@@ -1,5 +1,6 @@
 -- In the order to read them in.
 pub mod Unbound
 pub mod Stage
+pub mod Puts
+pub mod Rules
 pub mod Answer
-pub mod Parts

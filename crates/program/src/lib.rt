@@ -1,16 +1,23 @@
-// A program's text, read once: the number of its rules, or the refusal and its place.
+// A program's text, read once: its rules in the tables and their number, or the refusal and its place.
 ghost use mathlib.Core.Path.{_≡_};
 ghost use mathlib.Core.Bool.{cond};
+ghost use Prim.Native.Nat.{_≤_};
+ghost use lib.ListN.{length};
+ghost use Rattle.program.specs.Stage.{most-text};
+ghost use Rattle.program.specs.Rules.{Fillable};
 ghost use Rattle.program.specs.Answer.{refusal, readRules, ReadsProgram};
+use crate::put::RuleStart;
+use crate::put::put_rule;
+use lexis::NOWHERE;
 use lexis::Place;
-use look::look_at;
-use safety::Unbound;
-use syntax::MOST_RULES;
+use lexis::places::PLACE;
+use lexis::sizes::MOST_RULES;
+use lexis::sizes::MOST_TEXT;
+use lexis::sizes::MOST_VARIABLES;
+use rulesafety::unbound::Unbound;
 
-mod look;
-
-// The most bytes of a program's text.
-pub const MOST_TEXT: usize = 65536;
+pub mod put;
+pub mod space;
 
 // The refusal of a text that is over its size.
 const OVER_SIZE: u8 = 1;
@@ -55,27 +62,37 @@ fn finished(unbound: Unbound, count: usize) -> ProgramRead
     }
     ProgramRead {
         code: 0,
-        place: Place { start: 0, len: 0 },
+        place: NOWHERE,
         count,
     }
 }
 
-// 1; then the leftmost of 2, 3 and 4; then 5 at the leftmost first occurrence of a variable that is not bound.
-pub fn read_program(text: &[u8]) -> ProgramRead
-    ensures { λ r. ⌜ ReadsProgram (now (text .entry)) r ⌝ }
+// Of a program that is not over its size: the leftmost of 2, 3 and 4; then 5 at the leftmost first occurrence of a variable that is not
+// bound. Rule k has row k of the rules, and its literals have theirs.
+fn read_rules<'a>(
+    program: &'a [u8],
+    output: &'a [u8],
+    names: &mut [u32],
+    rules: &mut [u64],
+    literals: &mut [u64],
+) -> ProgramRead
+    requires { ⌜ (length (now program) ≤ most-text) × Fillable (now program) (now output) (now names) (now rules) (now literals) ⌝ }
+    ensures { λ r. ⌜ ReadsProgram (now (program .entry)) (now (output .entry)) (now (names .entry)) (now (rules .entry)) (now (literals .entry)) r (now (names .exit)) (now (rules .exit)) (now (literals .exit)) ⌝ }
 {
-    let nowhere = Place { start: 0, len: 0 };
-    if MOST_TEXT < text.len() {
-        return refused(OVER_SIZE, nowhere);
-    }
+    let mut places = [0u32; MOST_VARIABLES * PLACE];
     let mut unbound = Unbound {
         found: false,
-        place: nowhere,
+        place: NOWHERE,
     };
     let mut at = 0;
     let mut count = 0;
     loop {
-        let read = look_at(text, at, MOST_RULES <= count);
+        let start = RuleStart {
+            at,
+            number: count,
+            over: MOST_RULES <= count,
+        };
+        let read = put_rule(program, output, names, &mut places, rules, literals, start);
         let progress = read.progress;
         let place = progress.place;
         if progress.code != 0 {
@@ -89,4 +106,21 @@ pub fn read_program(text: &[u8]) -> ProgramRead
         at = progress.next;
         count += 1;
     }
+}
+
+// 1, with nothing touched; then what the rules answer.
+pub fn read_program<'a>(
+    program: &'a [u8],
+    output: &'a [u8],
+    names: &mut [u32],
+    rules: &mut [u64],
+    literals: &mut [u64],
+) -> ProgramRead
+    requires { ⌜ Fillable (now program) (now output) (now names) (now rules) (now literals) ⌝ }
+    ensures { λ r. ⌜ ReadsProgram (now (program .entry)) (now (output .entry)) (now (names .entry)) (now (rules .entry)) (now (literals .entry)) r (now (names .exit)) (now (rules .exit)) (now (literals .exit)) ⌝ }
+{
+    if MOST_TEXT < program.len() {
+        return refused(OVER_SIZE, NOWHERE);
+    }
+    read_rules(program, output, names, rules, literals)
 }

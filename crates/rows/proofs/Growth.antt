@@ -1,5 +1,5 @@
 -- Laws of the table of names as it grows: what stood for something stands for it still.
-use mathlib.Core.Path.{sym, ap, _∙_}
+use mathlib.Core.Path.{refl, sym, ap, _∙_}
 use mathlib.Core.Option.{none, some}
 use mathlib.Core.List.{List, [], _∷_, _++_, append-assoc, append-nil}
 use Prim.Native.Nat.{ℕ, _+_, _≤_}
@@ -32,7 +32,7 @@ left-of (both-builtin k t e) = t
 
 module _ (program output : Bytes) where
   pub grows-none : (names : List ℕ) (n : ℕ) → Table program output names → Grows program output names n names
-  grows-none names n t = record { in-order = t; more = []; behind = sym (append-nil _); few = omega arith }
+  grows-none names n t = record { in-order = t; more = []; behind = sym (append-nil _); few = omega arith; long = refl }
 
   pub grows-interned : (names : List ℕ) (name : Bytes) (names′ : List ℕ) (i : ℕ) → Interns program output names name names′ (At i) → Grows program output names 1 names′
   grows-interned names name names′ i h =
@@ -42,6 +42,7 @@ module _ (program output : Bytes) where
         more = behind _ name _ i (h .1);
         behind = e;
         few = let l = grown-length _ name _ i (h .1) in omega (arith, simp length-append at (ap length e));
+        long = h .2;
       }
 
   module _ {names names′ : List ℕ} {m : ℕ} (g : Grows program output names m names′) where
@@ -52,10 +53,11 @@ module _ (program output : Bytes) where
           more = g .more ++ h .more;
           behind = h .behind ∙ ap (λ (x : List Bytes). x ++ h .more) (g .behind) ∙ append-assoc (names-of program output names) (g .more) (h .more);
           few = let a = g .few in let b = h .few in simp length-append (omega arith);
+          long = h .long ∙ g .long;
         }
 
     pub room-after : {n : ℕ} (k : ℕ) → Room program output names n → m + k ≤ n → Room program output names′ k
-    room-after k r l = record { in-order = g .in-order; room = let a = g .few in let b = r .room in omega (arith, simp length-append at (ap length (g .behind))) }
+    room-after k r l = record { in-order = g .in-order; room = let a = g .few in let b = r .room in rw (g .long) (omega (arith, simp length-append at (ap length (g .behind)))) }
 
     -- ---- what stood for something stands for it still
 

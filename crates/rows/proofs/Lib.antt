@@ -1,10 +1,6 @@
--- Laws that the proofs of callers cite: `Growth` of the table of names, `Terms` of numbers for terms. The others serve this crate.
+-- Laws that the proofs of callers cite: `Growth` of the table of names, the others of numbers for terms, atoms and literals.
 pub mod Growth
 pub mod Sources
 pub mod Terms
-pub mod TermCodes
-pub mod Parts
-pub mod Arguments
 pub mod Atoms
 pub mod Literals
-pub mod BuiltIns

@@ -1,5 +1,5 @@
 -- A place of the source, counted on into the two texts, has the same bytes.
-use mathlib.Core.Path.{_≡_, refl, ap, _∙_}
+use mathlib.Core.Path.{_≡_, refl, sym, ap, subst, _∙_}
 use mathlib.Core.Bool.{Bool, true, false}
 use mathlib.Core.List.{List, [], _∷_}
 use Prim.Native.Nat.{ℕ, zero, suc, _+_, _-_, _≤_, _<_}
@@ -14,11 +14,11 @@ use Rattle.meaning.specs.Rules.{Bytes}
 use Rattle.names.specs.Texts.{place-at, bytes-at}
 use Rattle.names.specs.declared.Found.{Found}
 use Rattle.names.specs.declared.Found.the-variants.{At, Nothing}
-use Rattle.names.specs.Table.{most-names, names-of, Table}
+use Rattle.names.specs.Table.{capacity, names-of, Table}
 use Rattle.names.specs.Numbering.{Interns}
 use Rattle.names.proofs.Standing.{starts-inside, no-longer}
 use Rattle.names.proofs.Numbered.{numbered}
-use Rattle.rows.specs.Growth.{Room}
+use Rattle.rows.specs.Growth.{Room, Source}
 
 -- ---- a part of a part
 
@@ -43,54 +43,58 @@ starts-in n p ys h = go (ltb p (length ys)) refl
 
 -- ---- the source
 
-module _ (program output : Bytes) (source place : Place) (some : part (bytes-at program output source) place ≡ [] → ⊥) where
-  pub in-source : bytes-at program output (place-at (source .start + place .start) (length (part (bytes-at program output source) place))) ≡ part (bytes-at program output source) place
-  unfolding bytes-at
-  in-source = go (ltb (source .start) (length program)) refl
-    where
-      shifted : (whole : Bytes) (s : ℕ) → take (length (take (place .len) (drop (place .start) (take (source .len) (drop s whole))))) (drop (s + place .start) whole) ≡ take (place .len) (drop (place .start) (take (source .len) (drop s whole)))
-      shifted whole s = rw (← (drop-drop (place .start) s whole)) (own-part (place .len) (place .start) (source .len) (drop s whole))
+module _ (program output text : Bytes) (base : ℕ) (place : Place) (source : Source program output text base) (some : part text place ≡ [] → ⊥) where
+  abbrev from : Place
+  from = place-at base (length text)
 
-      go : (t : Bool) → ltb (source .start) (length program) ≡ t → bytes-at program output (place-at (source .start + place .start) (length (part (bytes-at program output source) place))) ≡ part (bytes-at program output source) place
-      go true e =
-          let h : part (take (source .len) (drop (source .start) program)) place ≡ [] → ⊥ = rw e at some in
+  filled : part (bytes-at program output from) place ≡ [] → ⊥
+  filled = subst (λ (b : Bytes). part b place ≡ [] → ⊥) source some
+
+  there : bytes-at program output (place-at (base + place .start) (length (part (bytes-at program output from) place))) ≡ part (bytes-at program output from) place
+  unfolding bytes-at
+  there = go (ltb base (length program)) refl filled
+    where
+      shifted : (whole : Bytes) (s : ℕ) → take (length (take (place .len) (drop (place .start) (take (length text) (drop s whole))))) (drop (s + place .start) whole) ≡ take (place .len) (drop (place .start) (take (length text) (drop s whole)))
+      shifted whole s = rw (← (drop-drop (place .start) s whole)) (own-part (place .len) (place .start) (length text) (drop s whole))
+
+      go : (t : Bool) → ltb base (length program) ≡ t → (part (bytes-at program output (place-at base (length text))) place ≡ [] → ⊥) → bytes-at program output (place-at (base + place .start) (length (part (bytes-at program output (place-at base (length text))) place))) ≡ part (bytes-at program output (place-at base (length text))) place
+      go true e f =
+          let h : part (take (length text) (drop base program)) place ≡ [] → ⊥ = rw e at f in
           let k = starts-in (place .len) (place .start) _ h in
-          let l : source .start + place .start < length program = omega (arith, simp (length-take, length-drop) at k) in
-          rw (e, lt-ltb _ _ l) (shifted program (source .start))
-      go false e =
-          let k : length program ≤ source .start = ltb-false (source .start) (length program) e in
-          let l : length program ≤ source .start + place .start = omega arith in
-          let q : source .start + place .start - length program ≡ source .start - length program + place .start = omega arith in
-          rw (e, le-ltb _ _ l, q) (shifted output (source .start - length program))
+          let l : base + place .start < length program = omega (arith, simp (length-take, length-drop) at k) in
+          rw (e, lt-ltb _ _ l) (shifted program base)
+      go false e f =
+          let k : length program ≤ base = ltb-false base (length program) e in
+          let l : length program ≤ base + place .start = omega arith in
+          let q : base + place .start - length program ≡ base - length program + place .start = omega arith in
+          rw (e, le-ltb _ _ l, q) (shifted output (base - length program))
+
+  -- the name stands in the two texts where its place in the text says
+  pub in-source : (name : Bytes) → name ≡ part text place → name ≡ bytes-at program output (place-at (base + place .start) (length name))
+  in-source name n =
+      let e : name ≡ part (bytes-at program output from) place = n ∙ ap (λ (b : Bytes). part b place) source in
+      e ∙ sym there ∙ ap (λ (b : Bytes). bytes-at program output (place-at (base + place .start) (length b))) (sym e)
 
   -- so the sum fits
-  pub source-fits : (names : List ℕ) → Table program output names → source .start + place .start < 262_144
+  pub source-fits : (names : List ℕ) → Table program output names → base + place .start < 262_144
   source-fits names t =
       let p = t .program-size in
       let o = t .output-size in
-      let filled : bytes-at program output source ≡ [] → ⊥ = λ e. some (rw (e, drop-nil (place .start), take-nil (place .len))) in
-      let s = starts-inside program output source filled in
-      let k = starts-in (place .len) (place .start) (bytes-at program output source) some in
-      let l = no-longer program output source in
+      let nonempty : bytes-at program output from ≡ [] → ⊥ = λ e. filled (rw (e, drop-nil (place .start), take-nil (place .len))) in
+      let s = starts-inside program output from nonempty in
+      let k = starts-in (place .len) (place .start) (bytes-at program output from) filled in
+      let l = no-longer program output from in
       omega arith
 
-  -- ---- the name is interned from its place in the two texts
+-- a name is not turned away where there is room
+module _ (program output : Bytes) (names : List ℕ) (name : Bytes) (some : name ≡ [] → ⊥) (names′ : List ℕ) (f : Found) (h : Interns program output names name names′ f) where
+  pub turned-away : Room program output names 1 → f ≡ Nothing → ⊥
+  turned-away r e =
+      let room : length (names-of program output names) < capacity (length names) = let k = r .room in omega arith in
+      let i = numbered program output names name names′ f h some room in
+      let q = i .1 in
+      let z : _≡_ {A = ℕ} 0 1 = cc in
+      omega arith
 
-  module _ (names : List ℕ) (text name : Bytes) (t : text ≡ bytes-at program output source) (n : name ≡ part text place) (names′ : List ℕ) (f : Found) (h : Interns program output names (bytes-at program output (place-at (source .start + place .start) (length name))) names′ f) where
-    interned : Interns program output names (part (bytes-at program output source) place) names′ f
-    interned =
-        let e : name ≡ part (bytes-at program output source) place = n ∙ ap (λ (b : Bytes). part b place) t in
-        let q : bytes-at program output (place-at (source .start + place .start) (length name)) ≡ part (bytes-at program output source) place = rw e in-source in
-        rw q at h
-
-    pub interned-at : (i : ℕ) → f ≡ At i → Interns program output names (part (bytes-at program output source) place) names′ (At i)
-    interned-at i e = rw e at interned
-
-    -- none is turned away
-    pub turned-away : Room program output names 1 → f ≡ Nothing → ⊥
-    turned-away r e =
-        let room : length (names-of program output names) < most-names = let k = r .room in omega arith in
-        let i = numbered program output names _ names′ f interned some room in
-        let q = i .1 in
-        let z : _≡_ {A = ℕ} 0 1 = cc in
-        omega arith
+  pub interned-at : (i : ℕ) → f ≡ At i → Interns program output names name names′ (At i)
+  interned-at i e = rw e at h

@@ -1,26 +1,27 @@
--- Numbers of terms, by the kind of the term's token.
+-- Numbers of terms: what stands for a name, a number and a variable.
 use mathlib.Core.Path.{_≡_, refl}
 use mathlib.Core.Bool.{Bool, true, false}
 use mathlib.Core.Option.{some}
 use mathlib.Core.List.{List}
 use Prim.Native.Nat.{ℕ, zero, suc, _+_, _-_, _≤_, _<_}
 use native.Mathlib.Omega.{arith}
-use lib.Dec.{eqb}
 use lib.ListN.{getElem?}
 use lib.IntN.{ℤ}
-use borrow.Author.Tests.{eq-eqb, ne-eqb, lt-ltb, le-ltb}
-use Rattle.lexis.specs.Tokens.{part}
+use borrow.Author.Tests.{lt-ltb, le-ltb}
 use Rattle.meaning.specs.Rules.{Bytes, constant, variable}
 use Rattle.meaning.specs.Values.{number, name, in-range}
 use Rattle.codes.specs.Codes.{zero-code, first-name, number-code, as-number, as-name}
 use Rattle.codes.specs.Related.{both-constant, both-variable}
 use Rattle.codes.proofs.Numbers.{range-up, range-down, number-least, code-is-number}
 use Rattle.tables.specs.Rows.{term-of}
-use Rattle.rule.specs.declared.Term as value-term
-use Rattle.rule.specs.Plain.{meant-term}
-use Rattle.rule.specs.Stands.{signed}
-use Rattle.rule.specs.Stands as stands
-use Rattle.rows.specs.Coding.{CodedTerm}
+use Rattle.syntax.specs.Terms.{signed}
+use Rattle.names.specs.declared.Found.the-variants.{At}
+use Rattle.names.specs.Table.{most-names, name-at, count}
+use Rattle.names.specs.Numbering.{Interns}
+use Rattle.names.proofs.Numbered.{grown-at}
+use Rattle.names.proofs.Firsts.{first-inside}
+use Rattle.rows.specs.Coding.{CodedTerm, Codes}
+use Rattle.rows.proofs.Growth.{grows-interned}
 
 -- ---- numbers
 
@@ -38,26 +39,6 @@ behind-minus (suc n) = refl
 pub with-no-minus : (n : ℕ) → zero-code + n ≡ number-code (signed false n)
 unfolding signed number-code
 with-no-minus n = refl
-
--- ---- what the token's kind says
-
-module _ (text : Bytes) (t : value-term.Term) where
-  pub term-name : t .kind ≡ 0 → meant-term (stands.term-of text t) ≡ constant (name (part text (t .place)))
-  unfolding meant-term stands.term-of
-  term-name e = rw (eq-eqb (t .kind) 0 e)
-
-  module _ (no-name : t .kind ≡ 0 → ⊥) where
-    pub term-number : t .kind ≡ 4 → meant-term (stands.term-of text t) ≡ constant (number (signed (t .negative) (t .value)))
-    unfolding meant-term stands.term-of
-    term-number e = rw (ne-eqb (t .kind) 0 no-name, eq-eqb (t .kind) 4 e)
-
-    pub term-variable : (t .kind ≡ 4 → ⊥) → meant-term (stands.term-of text t) ≡ variable (t .variable)
-    unfolding meant-term stands.term-of
-    term-variable no-number = go (eqb (t .kind) 2) refl
-      where
-        go : (b : Bool) → eqb (t .kind) 2 ≡ b → meant-term (stands.term-of text t) ≡ variable (t .variable)
-        go true e = rw (ne-eqb (t .kind) 0 no-name, ne-eqb (t .kind) 4 no-number, e)
-        go false e = rw (ne-eqb (t .kind) 0 no-name, ne-eqb (t .kind) 4 no-number, e)
 
 -- ---- the numbers stand for the terms
 
@@ -77,3 +58,14 @@ module _ (names : List Bytes) where
   pub coded-variable-term : (x : ℕ) → x < 16 → CodedTerm names x (variable x)
   unfolding term-of
   coded-variable-term x h = record { related = rw (lt-ltb x 16 h) (both-variable x); valued = λ q. omega arith }
+
+-- a name's number is below the most names
+pub name-below : (program output : Bytes) (names : List ℕ) (b : Bytes) (names′ : List ℕ) (i : ℕ) → Interns program output names b names′ (At i) → i < most-names
+name-below program output names b names′ i h =
+    let k = first-inside (name-at program output names′) (count names′) i b (grown-at _ b _ i (h .1)) .0 in
+    let r = h .0 .room in
+    omega arith
+
+-- a name that is interned
+pub name-coded : (program output : Bytes) (names : List ℕ) (b : Bytes) (names′ : List ℕ) (i : ℕ) → Interns program output names b names′ (At i) → Codes program output names 1 (λ ns. CodedTerm ns (first-name + i) (constant (name b))) names′
+name-coded program output names b names′ i h = record { grows = grows-interned program output names b names′ i h; coded = coded-name-term _ _ i b refl (grown-at _ _ _ i (h .1)) }

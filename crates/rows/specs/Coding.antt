@@ -1,18 +1,17 @@
--- What the numbers of a term, an atom and a literal are, beside the list of names.
+-- What the numbers of a term and an atom are, beside the list of names.
 use mathlib.Core.Path.{_≡_}
 use mathlib.Core.List.{List, map}
-use Prim.Native.Nat.{ℕ, _<_}
+use Prim.Native.Nat.{ℕ, _≤_}
 use lib.ListN.{take}
-use Rattle.meaning.specs.Rules.{Bytes, Term, Atom, Literal}
+use Rattle.meaning.specs.Rules.{Bytes, Term, Atom}
 use Rattle.meaning.specs.Values.{Value}
 use Rattle.codes.specs.Codes.{no-value, Coded}
 use Rattle.codes.specs.Predicates.{CodedName}
-use Rattle.codes.specs.Related.{Pairwise, RelatedTerm, RelatedAtom, RelatedLiteral}
-use Rattle.tables.specs.Rows.{term-of, arity, atom-with, literal-column, literal-at}
-use Rattle.tables.specs.WellFormed.{SideRow}
+use Rattle.codes.specs.Related.{Pairwise, RelatedTerm, RelatedAtom}
+use Rattle.tables.specs.Rows.{term-of, arity, atom-with}
 use Rattle.names.specs.Table.{names-of}
 use Rattle.rows.specs.Growth.{Grows}
-use Rattle.rows.specs.declared.atom.AtomCodes.{AtomCodes}
+use Rattle.rows.specs.declared.literal.AtomCodes.{AtomCodes}
 
 -- ---- beside a list of names
 
@@ -21,15 +20,15 @@ pub record CodedTerm (names : List Bytes) (c : ℕ) (t : Term Value) : Type 0 wh
   pub related : RelatedTerm (Coded names) (term-of c) t
   pub valued : c ≡ no-value → ⊥
 
+-- the first so many numbers stand for the terms
+pub record CodedTerms (names : List Bytes) (codes : List ℕ) (count : ℕ) (terms : List (Term Value)) : Type 0 where
+  pub few : count ≤ 8
+  pub coded : Pairwise (CodedTerm names) (take count codes) terms
+
 -- the predicate's number and the terms', as many as its arity says, stand for the atom
 pub record CodedAtom (names : List Bytes) (r : AtomCodes) (a : Atom (Term Value)) : Type 0 where
   pub related : RelatedAtom (CodedName names) (RelatedTerm (Coded names)) (atom-with (r .predicate) (map term-of (take (arity (r .predicate)) (r .terms)))) a
   pub terms : Pairwise (CodedTerm names) (take (arity (r .predicate)) (r .terms)) (a .arguments)
-
--- the row, as the only one of a table, stands for the literal
-pub record CodedLiteral (names : List Bytes) (row : List ℕ) (l : Literal Value) : Type 0 where
-  pub related : RelatedLiteral (CodedName names) (Coded names) (literal-at row 0) l
-  pub side : 1 < literal-column row 0 0 → SideRow row 0
 
 -- ---- what the functions give: the table of names afterwards, and numbers beside its names
 

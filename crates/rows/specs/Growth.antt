@@ -4,12 +4,17 @@ use mathlib.Core.List.{List, _++_}
 use Prim.Native.Nat.{ℕ, _+_, _≤_}
 use lib.ListN.{length}
 use Rattle.meaning.specs.Rules.{Bytes}
-use Rattle.names.specs.Table.{most-names, names-of, Table}
+use Rattle.names.specs.Texts.{place-at, bytes-at}
+use Rattle.names.specs.Table.{capacity, names-of, Table}
 
 -- a table with room for n names more
 pub record Room (program output : Bytes) (names : List ℕ) (n : ℕ) : Type 0 where
   pub in-order : Table program output names
-  pub room : length (names-of program output names) + n ≤ most-names
+  pub room : length (names-of program output names) + n ≤ capacity (length names)
+
+-- the text stands in the two texts from `base` on
+abbrev pub Source : Bytes → Bytes → Bytes → ℕ → Type 0
+Source program output text base = text ≡ bytes-at program output (place-at base (length text))
 
 -- the names of before, and at most n behind them
 pub record Grows (program output : Bytes) (names : List ℕ) (n : ℕ) (names′ : List ℕ) : Type 0 where
@@ -17,3 +22,4 @@ pub record Grows (program output : Bytes) (names : List ℕ) (n : ℕ) (names′
   pub more : List Bytes
   pub behind : names-of program output names′ ≡ names-of program output names ++ more
   pub few : length more ≤ n
+  pub long : length names′ ≡ length names

@@ -1,4 +1,3 @@
 -- In the order to read them in.
-pub mod Codable
 pub mod Growth
 pub mod Coding

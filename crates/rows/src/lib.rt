@@ -1,4 +1,3 @@
 // The numbers of a rule's terms, atoms and literals: names are numbered as they are met, and a literal is a row of 12 numbers.
-pub mod atom;
 pub mod literal;
 pub mod term;

@@ -18,10 +18,8 @@ use Rattle.grammar.specs.Tokens.{Token}
 use Rattle.syntax.specs.declared.token.TokenRead.{TokenRead}
 use Rattle.syntax.specs.Text.{placed-from, end-of, tokenRead}
 use Rattle.syntax.specs.Ahead.{ends-rule}
-use Rattle.syntax.specs.Rules.{between}
 use Rattle.syntax.proofs.Tokens.{within, token-here, number-here, placed-more, placed-end, end-here}
-use Rattle.sentences.specs.Sentences.{behind-dots, dot-end, to-dot, sentence}
-use Rattle.sentences.proofs.Inside.{Within}
+use Rattle.sentences.specs.Sentences.{behind-dots, dot-end, between, to-dot, sentence}
 
 -- where the first dot from a place on ends
 abbrev ends : Bool → Bytes → ℕ → ℕ
@@ -97,16 +95,7 @@ module _ (ground : Bool) (text : Bytes) where
     by-tokens : (at : ℕ) → P at
     by-tokens at = up-to (suc (length text - at)) at (omega arith)
 
-  -- the first dot lies inside the text
-  pub dot-inside : (at : ℕ) → ends ground text at ≤ length text
-  dot-inside =
-      by-tokens
-      (λ (at : ℕ). ends ground text at ≤ length text)
-      (λ at e. rw (no-dot ground text at (token at) refl e) (omega arith))
-      (λ at e. rw (dot-here ground text at (token at) refl e) (within ground text at (token at) refl))
-      (λ at n e h. rw (dot-later ground text at (token at) refl n e) h)
-
-  -- and behind the place
+  -- the first dot lies behind the place
   pub dot-behind : (at : ℕ) → at ≤ length text → at ≤ ends ground text at
   dot-behind =
       by-tokens
@@ -188,21 +177,3 @@ module _ (ground : Bool) (text : Bytes) where
     pub first-to-dot : to-dot (end-of text) (placed-from ground text at) ≡ between (t .place .start) (ends ground text at)
     unfolding to-dot
     first-to-dot = rw (placed-more ground text at t et n)
-
-  to-dot-inside : (at : ℕ) → Within text (to-dot (end-of text) (placed-from ground text at))
-  to-dot-inside at = go (eqb (token ground text at .kind) 20) refl
-    where
-      go : (b : Bool) → eqb (token ground text at .kind) 20 ≡ b → Within text (to-dot (end-of text) (placed-from ground text at))
-      go true e = rw (no-token ground text at (token ground text at) refl (eqb-true _ 20 e)) (within ground text at (token ground text at) refl)
-      go false e =
-          let n = eqb-false (token ground text at .kind) 20 e in
-          let s = start-before at (token ground text at) refl n in
-          rw (first-to-dot at (token ground text at) refl n) (omega (arith, dot-inside ground text at))
-
-  reached : (k : ℕ) → (at : ℕ) × Reached k at
-  reached zero = (0, reached-start)
-  reached (suc k) = let q = reached k in (ends ground text (q .0), rw (add-one k) at (reached-on k (q .0) (q .1)))
-
-  -- a rule or a fact lies inside the text
-  pub sentence-inside : (k : ℕ) → Within text (sentence ground text k)
-  sentence-inside k = let q = reached k in rw (reached-sentence k (q .0) (q .1)) at (to-dot-inside (q .0))

@@ -1,14 +1,13 @@
 -- Where the rules of a program, or the facts of a facts line, stand: each from its first token to its dot.
 use mathlib.Core.Bool.{Bool, cond}
 use mathlib.Core.List.{List, [], _∷_}
-use Prim.Native.Nat.{ℕ, zero, suc, _+_}
+use Prim.Native.Nat.{ℕ, zero, suc, _+_, _-_}
 use Rattle.lexis.specs.declared.Place.{Place}
 use Rattle.reading.specs.Reading.{Placed}
 use Rattle.meaning.specs.Rules.{Bytes}
 use Rattle.grammar.specs.Tokens.{Token}
 use Rattle.syntax.specs.Text.{placed-from, end-of}
 use Rattle.syntax.specs.Ahead.{ends-rule}
-use Rattle.syntax.specs.Rules.{between}
 
 -- the tokens behind the first k dots
 unfoldable pub behind-dots : ℕ → List (Placed Place Token) → List (Placed Place Token)
@@ -20,6 +19,10 @@ behind-dots (suc k) (t ∷ ts) = cond (ends-rule (t .token)) (behind-dots k ts) 
 unfoldable pub dot-end : Place → List (Placed Place Token) → ℕ
 dot-end end [] = end .start
 dot-end end (t ∷ ts) = cond (ends-rule (t .token)) (t .place .start + t .place .len) (dot-end end ts)
+
+-- from where something starts to where it ends
+abbrev pub between : ℕ → ℕ → Place
+between start end = record { start = start; len = end - start }
 
 -- from the first token to the first dot; the end where there is no token
 unfoldable pub to-dot : Place → List (Placed Place Token) → Place

@@ -8,7 +8,7 @@ use lexis::kind::END;
 use syntax::token::token_at;
 
 // Where the first dot from `at` on ends; the text's end where there is none.
-pub fn dot_end(text: &[u8], at: usize, ground: bool) -> usize
+fn dot_end(text: &[u8], at: usize, ground: bool) -> usize
     ensures { λ r. ⌜ r ≡ dot-end (end-of (now (text .entry))) (placed-from ground (now (text .entry)) at) ⌝ }
 {
     let mut next = at;
@@ -25,7 +25,7 @@ pub fn dot_end(text: &[u8], at: usize, ground: bool) -> usize
 }
 
 // From the first token at or after `at` to the first dot; empty at the text's end where there is no token.
-pub fn to_dot(text: &[u8], at: usize, ground: bool) -> Place
+fn to_dot(text: &[u8], at: usize, ground: bool) -> Place
     ensures { λ r. ⌜ r ≡ to-dot (end-of (now (text .entry))) (placed-from ground (now (text .entry)) at) ⌝ }
 {
     let token = token_at(text, at, ground);

@@ -1,17 +1,13 @@
+-- In the order to read them in.
 pub mod Tokens
-pub mod Steps
 pub mod Sizes
-pub mod Readings
+pub mod Steps
 pub mod Variables
-pub mod Terms
+pub mod Readings
 pub mod Lists
-pub mod ArgumentLists
+pub mod Signs
+pub mod Terms
 pub mod Atoms
 pub mod Builtins
 pub mod Literals
-pub mod Bodies
-pub mod Rules
 pub mod Programs
-pub mod Written
-pub mod Numbered
-pub mod Walked

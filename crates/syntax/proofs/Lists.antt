@@ -1,15 +1,11 @@
--- Lists by value, and what several things read one after the other share.
+-- What several things read one after the other share.
 use mathlib.Core.Path.{_≡_, refl, _∙_}
 use mathlib.Core.Bool.{Bool, true, false}
-use mathlib.Core.List.{List, [], _∷_, _++_, map, map-append}
-use Prim.Native.Nat.{ℕ, suc, _+_, _<_}
+use mathlib.Core.List.{[], _∷_, _++_}
+use Prim.Native.Nat.{ℕ, suc, _+_}
 use native.Mathlib.Omega.{arith}
-use native.Mathlib.Numerals.{add-one}
 use lib.Dec.{leb, ltb}
-use lib.ListN.{length, take, set}
-use lib.Seq.{take-suc-set}
 use borrow.Author.Tests.{leb-true, leb-false, lt-ltb, le-ltb}
-use Rattle.reading.specs.Reading.{_▹_}
 use Rattle.meaning.specs.Rules.{Bytes}
 use Rattle.grammar.specs.Tokens.{comma}
 use Rattle.grammar.specs.Trees.{Sequence, _then_, count}
@@ -20,10 +16,6 @@ use Rattle.syntax.specs.declared.token.TokenRead.{TokenRead}
 use Rattle.syntax.specs.declared.separator.SeparatorRead.{SeparatorRead}
 use Rattle.syntax.specs.Text.{tokenRead}
 use Rattle.syntax.specs.Arguments.{goneSeparator, stoppedSeparator, Separates, last, neither}
-
--- one more is put behind those that are there
-pub map-put : {A B : Type 0} (f : A → B) (l : List A) (n : ℕ) (a : A) → n < length l → map f (take (n + 1) (set l n a)) ≡ map f (take n l) ▹ f a
-map-put f l n a h = rw (add-one n, take-suc-set l n a h) (map-append f (take n l) (a ∷ []))
 
 -- the next of n things is one too many where there are as many as there may be
 pub too-many-next : (most n : ℕ) → ltb most (suc n) ≡ leb most n

@@ -6,7 +6,7 @@ use Rattle.reading.specs.Reading.{Answer}
 use Rattle.reading.specs.Machine.{answer}
 use Rattle.meaning.specs.Rules.{Bytes}
 use Rattle.grammar.specs.Trees.{empty, Program}
-use Rattle.grammar.proofs.Theorems.{answer-is-reading, reading-is-answer}
+use Rattle.grammar.proofs.Theorems.{answer-is-reading}
 use Rattle.syntax.specs.Text.{placed-from, end-of}
 use Rattle.syntax.specs.Rules.{behind-rules}
 use Rattle.syntax.specs.Programs.{ReadAs}
@@ -16,7 +16,3 @@ module _ (ground : Bool) (text : Bytes) where
   pub reading-of : (a : Answer Place (Program ground)) → behind-rules ground text empty 0 ≡ a → ReadAs ground text a
   unfolding answer
   reading-of a e = rw e at (answer-is-reading ground (end-of text) (placed-from ground text 0))
-
-  pub answer-of : (a : Answer Place (Program ground)) → ReadAs ground text a → behind-rules ground text empty 0 ≡ a
-  unfolding answer
-  answer-of a h = reading-is-answer ground (end-of text) (placed-from ground text 0) a h

@@ -2,7 +2,7 @@
 use mathlib.Core.Path.{_≡_, refl, sym as inv, ap, _∙_}
 use mathlib.Core.Bool.{Bool, true, false, not}
 use mathlib.Core.List.{[], _∷_, map}
-use Prim.Native.Nat.{ℕ, _+_, _≤_}
+use Prim.Native.Nat.{ℕ, _+_, _≤_, _<_}
 use native.Mathlib.Omega.{arith}
 use lib.ListN.{length, length-take, length-drop}
 use borrow.Author.Tests.{eq-eqb, ne-eqb}
@@ -14,7 +14,7 @@ use Rattle.lexis.specs.Token.{nextToken}
 use Rattle.lexis.specs.Tokens.{part}
 use Rattle.lexis.specs.Spelling.{kindOf}
 use Rattle.lexis.proofs.KindNumber.{kindAt, kind-at-number}
-use Rattle.lexis.proofs.Next.{inside, end-place, next-kind}
+use Rattle.lexis.proofs.Next.{inside, end-place, next-kind, onward}
 use Rattle.lexis.proofs.TokenList.{tokens-end, tokens-more}
 use Rattle.meaning.specs.Rules.{Bytes}
 use Rattle.grammar.specs.Tokens.{Token}
@@ -69,6 +69,10 @@ module _ (ground : Bool) (text : Bytes) (at : ℕ) (t : TokenRead) (et : t ≡ t
 
   pub place-within : t .place .start + t .place .len ≤ length text
   place-within = rw et (inside (not ground) text at)
+
+  -- and behind the place from which it is looked for
+  pub forward : (t .kind ≡ 20 → ⊥) → at < t .next
+  forward h = rw et (onward (not ground) text at (ne-eqb (kindNumber (next .kind)) 20 (λ q. h (rw et q))))
 
   pub part-length : length (part text (t .place)) ≡ t .place .len
   part-length = let w = place-within in simp (length-take, length-drop) (omega arith)

@@ -1,4 +1,4 @@
--- Variables by value: the number of one among those met, and one more.
+-- The variables met in a rule: the number of one among them, and one more.
 use mathlib.Core.Path.{_≡_, refl, sym as inv, ap, _∙_}
 use mathlib.Core.Bool.{Bool, true, false, cond}
 use mathlib.Core.Option.{Option, none, some}
@@ -6,15 +6,17 @@ use mathlib.Core.List.{List, [], _∷_, _++_, map, map-append}
 use Prim.Native.Nat.{ℕ, suc, _+_, _≤_, _<_}
 use native.Mathlib.Omega.{arith}
 use native.Mathlib.Numerals.{add-one}
-use lib.ListN.{length, take, drop, getD, set, length-set, length-append, drop-of-length-le, List·getD-map, length-map}
-use lib.Seq.{drop-cons, take-suc-set, length-take-le, getD-take}
+use lib.ListN.{length, drop, getD, length-append, drop-of-length-le, List·getD-map, length-map}
+use lib.Seq.{drop-cons}
 use borrow.Author.Tests.{lt-ltb, le-ltb}
 use Rattle.lexis.specs.declared.Place.{Place}
+use Rattle.lexis.specs.Places.{nowhere, places-in, place-in}
 use Rattle.lexis.specs.Tokens.{part}
 use Rattle.lexis.specs.Kind.{kindNumber}
 use Rattle.lexis.specs.Class.{classOf}
 use Rattle.lexis.specs.Spelling.{kindOf}
 use Rattle.lexis.proofs.KindNumber.{kindAt}
+use Rattle.lexis.proofs.PlaceTables.{places-length, place-among}
 use Rattle.lexis.proofs.Spelled.{spells}
 use Rattle.reading.specs.Reading.{_▹_}
 use Rattle.meaning.specs.Rules.{Bytes}
@@ -22,29 +24,22 @@ use Rattle.meaning.specs.Values.{same-bytes}
 use Rattle.meaning.proofs.Facts.{same-bytes-sound}
 use Rattle.grammar.specs.Variables.{Variables as Names, number-of, with-variable}
 use Rattle.grammar.proofs.Variables.{number-at-most}
-use Rattle.rule.specs.declared.Variables.{Variables}
-use Rattle.rule.specs.Stands.{variable-at, variables-of}
-use Rattle.rule.specs.Build.{noPlace, withPlace}
-use Rattle.syntax.specs.Reads.{Fits}
-use Rattle.syntax.specs.Terms.{first-among}
+use Rattle.syntax.specs.Variables.{variable-at, variables-of, Fits, first-among}
 
 -- ---- how many there are, and one more
 
-module _ (text : Bytes) (v : Variables) (fits : Fits v) where
-  pub count-names : length (variables-of text v) ≡ v .count
+module _ (text : Bytes) (v : List Place) where
+  pub count-names : length (variables-of text v) ≡ length v
   unfolding variables-of
-  count-names = length-map (take (v .count) (v .places)) _ ∙ length-take-le (v .count) (v .places) (omega (arith, fits .few, fits .room))
+  count-names = length-map v _
 
-  module _ (place : Place) (room : v .count < 16) where
-    pub one-more : Fits (withPlace v place)
-    one-more = record { few = omega arith; room = simp length-set (fits .room) }
+  module _ (place : Place) where
+    pub one-more : length v < 16 → Fits (v ++ (place ∷ []))
+    one-more room = omega (arith, length-append v (place ∷ []))
 
-    pub more-places : take (v .count + 1) (set (v .places) (v .count) place) ≡ take (v .count) (v .places) ++ place ∷ []
-    more-places = rw (add-one (v .count)) (take-suc-set (v .places) (v .count) place (omega (arith, fits .room)))
-
-    pub more-names : variables-of text (withPlace v place) ≡ variables-of text v ▹ variable-at (part text place)
+    pub more-names : variables-of text (v ++ (place ∷ [])) ≡ variables-of text v ▹ variable-at (part text place)
     unfolding variables-of
-    more-names = rw more-places (map-append (λ p. variable-at (part text p)) (take (v .count) (v .places)) (place ∷ []))
+    more-names = map-append (λ p. variable-at (part text p)) v (place ∷ [])
 
 -- ---- the number of one
 
@@ -72,18 +67,18 @@ module _ (b : Bytes) (no-underscore : same-bytes b (95 ∷ []) ≡ false) where
   number-among text [] = refl
   number-among text (p ∷ places) = rw (number-among text places) (inv (number-by (part text p) (map (λ q. variable-at (part text q)) places)))
 
--- ---- the search for it
+-- ---- the search for it, in a table of places
 
-module _ (text : Bytes) (b : Bytes) (v : Variables) (fits : Fits v) (i : ℕ) where
+module _ (text : Bytes) (b : Bytes) (table : List ℕ) (met i : ℕ) where
   abbrev pub met-names : List Bytes
-  met-names = map (part text) (take (v .count) (v .places))
+  met-names = map (part text) (places-in table met)
 
-  how-many : length met-names ≡ v .count
-  how-many = length-map (take (v .count) (v .places)) (part text) ∙ length-take-le (v .count) (v .places) (omega (arith, fits .few, fits .room))
+  how-many : length met-names ≡ met
+  how-many = length-map (places-in table met) (part text) ∙ places-length table met
 
-  module _ (h : i < v .count) (x y : Bytes) (ex : x ≡ b) (ey : y ≡ part text (getD (v .places) i noPlace)) (r : Bool) (er : r ≡ same-bytes x y) where
+  module _ (h : i < met) (x y : Bytes) (ex : x ≡ b) (p : Place) (ep : p ≡ place-in table i) (ey : y ≡ part text p) (r : Bool) (er : r ≡ same-bytes x y) where
     same-here : same-bytes b (getD met-names i []) ≡ r
-    same-here = rw (List·getD-map (part text) (take (v .count) (v .places)) i noPlace, getD-take (v .count) (v .places) i noPlace h, ← ex, ← ey) (inv er)
+    same-here = ap (same-bytes b) (List·getD-map (part text) (places-in table met) i nowhere ∙ ap (part text) (place-among table met i nowhere h ∙ inv ep) ∙ inv ey) ∙ ap (λ z. same-bytes z y) (inv ex) ∙ inv er
 
     pub among-here : r ≡ true → first-among b (drop i met-names) ≡ 0
     unfolding first-among
@@ -93,34 +88,34 @@ module _ (text : Bytes) (b : Bytes) (v : Variables) (fits : Fits v) (i : ℕ) wh
     unfolding first-among
     among-on e = rw (drop-cons met-names i [] (rw how-many h), same-here, e, add-one i)
 
-  pub among-end : v .count ≤ i → first-among b (drop i met-names) ≡ 0
+  pub among-end : met ≤ i → first-among b (drop i met-names) ≡ 0
   unfolding first-among
   among-end h = let z : length met-names ≤ i = rw how-many h in rw (drop-of-length-le met-names z)
 
 -- ---- what meeting one does
 
-module _ (text : Bytes) (v : Variables) (fits : Fits v) (place : Place) (no-underscore : same-bytes (part text place) (95 ∷ []) ≡ false) (n : ℕ) (en : n ≡ first-among (part text place) (map (part text) (take (v .count) (v .places)))) where
+module _ (text : Bytes) (v : List Place) (place : Place) (no-underscore : same-bytes (part text place) (95 ∷ []) ≡ false) (n : ℕ) (en : n ≡ first-among (part text place) (map (part text) v)) where
   abbrev vs : Names
   vs = variables-of text v
 
   pub number-is : number-of (part text place) vs ≡ n
   unfolding variables-of
-  number-is = inv (en ∙ number-among (part text place) no-underscore text (take (v .count) (v .places)))
+  number-is = inv (en ∙ number-among (part text place) no-underscore text v)
 
-  pub number-in-count : n ≤ v .count
-  number-in-count = omega (arith, number-at-most (part text place) vs, number-is, count-names text v fits)
+  pub number-in-count : n ≤ length v
+  number-in-count = omega (arith, number-at-most (part text place) vs, number-is, count-names text v)
 
-  pub known : n < v .count → with-variable vs (part text place) ≡ vs
+  pub known : n < length v → with-variable vs (part text place) ≡ vs
   unfolding with-variable
-  known h = rw (number-is, count-names text v fits, lt-ltb n (v .count) h)
+  known h = rw (number-is, count-names text v, lt-ltb n (length v) h)
 
-  pub unknown : v .count ≤ n → with-variable vs (part text place) ≡ vs ▹ some (part text place)
+  pub unknown : length v ≤ n → with-variable vs (part text place) ≡ vs ▹ some (part text place)
   unfolding with-variable
-  unknown h = rw (number-is, count-names text v fits, le-ltb n (v .count) h)
+  unknown h = rw (number-is, count-names text v, le-ltb n (length v) h)
 
-  pub added : v .count < 16 → variables-of text (withPlace v place) ≡ vs ▹ some (part text place)
+  pub added : variables-of text (v ++ (place ∷ [])) ≡ vs ▹ some (part text place)
   unfolding variable-at
-  added h = more-names text v fits place h ∙ rw no-underscore
+  added = more-names text v place ∙ rw no-underscore
 
 -- the bytes of `_`
 pub underscored : (b : Bytes) → kindOf b ≡ kindAt 3 → variable-at b ≡ none

@@ -1,11 +1,11 @@
 -- What lies ahead from a place of a text: the answer of the grammar's machine, the first occurrences of variables as far as the rule's dot,
--- and the tokens behind it.
+-- the dot, and the tokens behind it.
 use mathlib.Core.Bool.{Bool, true, false, cond}
 use mathlib.Core.Option.{Option, none, some}
 use mathlib.Core.List.{List, [], _∷_, _++_}
 use Prim.Native.Nat.{ℕ}
 use lib.Dec.{eqb, ltb}
-use lib.ListN.{length, take}
+use lib.ListN.{length}
 use Rattle.lexis.specs.declared.Place.{Place}
 use Rattle.reading.specs.Reading.{Placed, Answer}
 use Rattle.reading.specs.Machine.{Step, Machine, walk}
@@ -18,8 +18,7 @@ use Rattle.grammar.specs.Sizes.{language}
 use Rattle.grammar.specs.States.{State, atom-wanted, head-behind}
 use Rattle.grammar.specs.Moves.{Move, token-number, try}
 use Rattle.grammar.specs.Machine.{moves, finished}
-use Rattle.rule.specs.declared.Variables.{Variables}
-use Rattle.rule.specs.Stands.{variables-of}
+use Rattle.syntax.specs.Variables.{variables-of}
 use Rattle.syntax.specs.Text.{placed-from, end-of}
 
 -- what may stand next: the moves on a token, and the program, where the text may end
@@ -60,16 +59,23 @@ unfoldable pub behind-dot : List (Placed Place Token) → Option (List (Placed P
 behind-dot [] = none
 behind-dot (t ∷ ts) = cond (ends-rule (t .token)) (some ts) (behind-dot ts)
 
+-- where the rule's dot stands, if it has one
+unfoldable pub dot-at : List (Placed Place Token) → Option Place
+dot-at [] = none
+dot-at (t ∷ ts) = cond (ends-rule (t .token)) (some (t .place)) (dot-at ts)
+
 pub record Ahead (ground : Bool) : Type 0 where
   pub answer : Answer Place (Program ground)
   pub firsts : List Place
   pub rest : Option (List (Placed Place Token))
+  pub dot : Option Place
 
--- the variables met before are given by value
-abbrev pub from : (ground : Bool) → Bytes → Wants ground → Variables → ℕ → Ahead ground
+-- v: the variables met before
+abbrev pub from : (ground : Bool) → Bytes → Wants ground → List Place → ℕ → Ahead ground
 from ground text w v at =
     record {
       answer = walk (language ground) (wanting ground) w (variables-of text v) (end-of text) (placed-from ground text at);
-      firsts = take (v .count) (v .places) ++ firsts (variables-of text v) (placed-from ground text at);
+      firsts = v ++ firsts (variables-of text v) (placed-from ground text at);
       rest = behind-dot (placed-from ground text at);
+      dot = dot-at (placed-from ground text at);
     }

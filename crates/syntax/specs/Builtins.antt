@@ -1,29 +1,35 @@
--- Built-in atoms from the left term on: where they stand, and what the functions that read them promise.
-use mathlib.Core.Path.{_≡_}
-use mathlib.Core.Bool.{false}
+-- Built-in atoms from the left term on: where they stand.
+use mathlib.Core.Bool.{false, cond, _||_}
 use mathlib.Core.Option.{none}
 use mathlib.Core.List.{[], _∷_, _++_}
 use Prim.Native.Nat.{ℕ}
-use Rattle.lexis.specs.declared.Place.{Place}
-use Rattle.meaning.specs.Domain.{Comparison, Operation}
-use Rattle.meaning.specs.Rules.{Bytes}
+use lib.Dec.{eqb}
+use Rattle.meaning.specs.Domain.{Comparison, equal, unequal, less, at-most, greater, at-least, Operation, plus, minus, times}
+use Rattle.meaning.specs.Rules.{Term, plain, Literal, builtin, Side}
+use Rattle.meaning.specs.Values.{Value}
 use Rattle.grammar.specs.Tokens.{Sign, comparison}
 use Rattle.grammar.specs.Trees.{Term as TermTree, Literal as Tree, compared, computed}
 use Rattle.grammar.specs.Spelling.{inside, Spelling, mere, spell-term, spell-operation}
 use Rattle.grammar.specs.Variables.{Variables as Names, met}
 use Rattle.grammar.specs.States.{BodyContext, left-in, right-in, term-read}
 use Rattle.grammar.specs.Machine.{after-literal}
-use Rattle.grammar.specs.Abstraction.{comparison-for}
-use Rattle.rule.specs.declared.Term.{Term}
-use Rattle.rule.specs.declared.Variables.{Variables}
-use Rattle.rule.specs.Plain.{PlainTerm, PlainLiteral}
-use Rattle.rule.specs.Stands.{term-of, comparison-of, literal-of}
-use Rattle.rule.specs.Build.{noPlace, noAtom, noLiteral}
-use Rattle.syntax.specs.declared.term.TermRead.{TermRead}
-use Rattle.syntax.specs.declared.builtin.LiteralRead.{LiteralRead}
+use Rattle.grammar.specs.Abstraction.{term-for, comparison-for}
 use Rattle.syntax.specs.Ahead.{Wants, wants}
-use Rattle.syntax.specs.Written.{plain-term}
-use Rattle.syntax.specs.Reads.{Production, Reads}
+use Rattle.syntax.specs.Fills.{Production}
+
+-- by the number of the sign's kind: = != <> < <= >, or else >=
+unfoldable pub comparison-of : ℕ → Comparison
+comparison-of k =
+    cond (eqb k 13) equal
+    (cond (eqb k 14 || eqb k 15) unequal
+    (cond (eqb k 16) less
+    (cond (eqb k 17) at-most
+    (cond (eqb k 18) greater
+    at-least))))
+
+-- by the number of the mark's kind: - +, or else *
+unfoldable pub operation-of : ℕ → Operation
+operation-of k = cond (eqb k 10) minus (cond (eqb k 11) plus times)
 
 -- behind a literal: a comma or a dot
 abbrev pub behind-literal : BodyContext false → Tree false → Wants false
@@ -42,9 +48,9 @@ unfoldable pub spell-tail : Tail → Spelling
 spell-tail nothing = []
 spell-tail (operand o w) = mere (spell-operation o) ∷ spell-term inside w
 
-unfoldable pub plain-tail : PlainTerm → Comparison → PlainTerm → Names → Tail → PlainLiteral
-plain-tail t c u vs nothing = PlainLiteral.compared t c u
-plain-tail t c u vs (operand o w) = PlainLiteral.computed t c u o (plain-term vs w)
+unfoldable pub tail-for : Term Value → Comparison → Term Value → Names → Tail → Literal Value
+tail-for t c u vs nothing = builtin c t (plain u)
+tail-for t c u vs (operand o w) = builtin c t (Side.computed u o (term-for vs w))
 
 pub record TailPlace : Type 0 where
   pub body : BodyContext false
@@ -52,11 +58,11 @@ pub record TailPlace : Type 0 where
   pub sign : Sign
   pub right : TermTree false
 
-abbrev pub tail-in : PlainTerm → Comparison → PlainTerm → Production false
-tail-in t c u = record { Context = TailPlace; Tree = Tail; Plain = PlainLiteral; before = λ h. wants (term-read (right-in (h .body) (h .left) (h .sign)) (h .right)); behind = λ h x. behind-literal (h .body) (with-tail (h .left) (h .sign) (h .right) x); spelling = spell-tail; plain = plain-tail t c u }
+abbrev pub tail-in : Term Value → Comparison → Term Value → Production false
+tail-in t c u = record { Context = TailPlace; Tree = Tail; Meant = Literal Value; before = λ h. wants (term-read (right-in (h .body) (h .left) (h .sign)) (h .right)); behind = λ h x. behind-literal (h .body) (with-tail (h .left) (h .sign) (h .right) x); spelling = spell-tail; meant = tail-for t c u }
 
 -- behind the left term: a comparison, the right term, and what stands behind it
-pub record Side : Type 0 where
+pub record RightSide : Type 0 where
   pub sign : Sign
   pub right : TermTree false
   pub tail : Tail
@@ -65,30 +71,11 @@ pub record SidePlace : Type 0 where
   pub body : BodyContext false
   pub left : TermTree false
 
-abbrev pub spell-side : Side → Spelling
+abbrev pub spell-side : RightSide → Spelling
 spell-side x = record { token = comparison (x .sign); mark = inside } ∷ spell-term inside (x .right) ++ spell-tail (x .tail)
 
-abbrev pub plain-side : PlainTerm → Names → Side → PlainLiteral
-plain-side t vs x = plain-tail t (comparison-for (x .sign)) (plain-term vs (x .right)) (met vs (spell-term inside (x .right))) (x .tail)
+abbrev pub side-for : Term Value → Names → RightSide → Literal Value
+side-for t vs x = tail-for t (comparison-for (x .sign)) (term-for vs (x .right)) (met vs (spell-term inside (x .right))) (x .tail)
 
-abbrev pub side-in : PlainTerm → Production false
-side-in t = record { Context = SidePlace; Tree = Side; Plain = PlainLiteral; before = λ h. wants (term-read (left-in (h .body)) (h .left)); behind = λ h x. behind-literal (h .body) (with-tail (h .left) (x .sign) (x .right) (x .tail)); spelling = spell-side; plain = plain-side t }
-
-abbrev pub ReadsTail : Bytes → ℕ → Term → ℕ → Term → Variables → LiteralRead → Type 0
-ReadsTail text at left sign right v r = Reads (tail-in (term-of text left) (comparison-of sign) (term-of text right)) false text at v (r .progress) (r .variables) (literal-of text (r .literal))
-
-abbrev pub ReadsSide : Bytes → ℕ → Term → Variables → LiteralRead → Type 0
-ReadsSide text at left v r = Reads (side-in (term-of text left)) false text at v (r .progress) (r .variables) (literal-of text (r .literal))
-
--- the left term's refusal passes on, or its right side is read
-pub data ReadsCompared (text : Bytes) (left : TermRead) (r : LiteralRead) : Type 0 where
-  refused-left : (left .progress .code ≡ 0 → ⊥) → r .progress .code ≡ left .progress .code → r .progress .place ≡ left .progress .place → ReadsCompared text left r
-  reads-side : left .progress .code ≡ 0 → ReadsSide text (left .progress .next) (left .term) (left .variables) r → ReadsCompared text left r
-
--- ---- what the parts of it answer
-
-abbrev pub stoppedLiteral : ℕ → Place → Variables → LiteralRead
-stoppedLiteral code place v = record { progress = record { code = code; place = place; next = 0 }; literal = noLiteral; variables = v }
-
-abbrev pub goneBuiltin : Term → ℕ → Term → ℕ → Term → ℕ → Variables → LiteralRead
-goneBuiltin left sign right operation behind next v = record { progress = record { code = 0; place = noPlace; next = next }; literal = record { sort = 2; atom = noAtom; left = left; comparison = sign; right = right; operation = operation; operand = behind }; variables = v }
+abbrev pub side-in : Term Value → Production false
+side-in t = record { Context = SidePlace; Tree = RightSide; Meant = Literal Value; before = λ h. wants (term-read (left-in (h .body)) (h .left)); behind = λ h x. behind-literal (h .body) (with-tail (h .left) (x .sign) (x .right) (x .tail)); spelling = spell-side; meant = side-for t }

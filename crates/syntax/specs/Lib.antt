@@ -1,8 +1,8 @@
 -- In the order to read them in.
 pub mod Text
+pub mod Variables
 pub mod Ahead
-pub mod Written
-pub mod Reads
+pub mod Fills
 pub mod Terms
 pub mod Arguments
 pub mod Atoms

@@ -1,17 +1,7 @@
-// Tokens to rules: each function reads one production of the grammar, by value, and says where reading goes on or why it stops.
-pub mod arguments;
-pub mod atom;
-pub mod body;
-pub mod builtin;
-pub mod literal;
+// What the productions of the grammar share: the token at a place, a word's size, a separator, a comparison's sign, the number of a variable;
+// and what a function that reads a production promises.
 pub mod separator;
-pub mod start;
-pub mod term;
+pub mod sign;
 pub mod token;
 pub mod variable;
-
-// The most rules of a program.
-pub const MOST_RULES: usize = 256;
-
-// The most facts of a candidate.
-pub const MOST_FACTS: usize = 1024;
+pub mod word;

@@ -1,10 +1,10 @@
 // What stands behind one of several things: a comma before the next, or the mark behind the last.
 ghost use mathlib.Core.Path.{_≡_};
 ghost use Rattle.syntax.specs.Arguments.{goneSeparator, Separates};
-use crate::term::WRONG;
 use crate::token::Progress;
 use crate::token::token_at;
-use lexis::Place;
+use crate::word::WRONG;
+use lexis::NOWHERE;
 use lexis::kind::COMMA;
 
 // A comma, or, where `last`, the mark.
@@ -19,7 +19,7 @@ fn gone(next: usize, last: bool) -> SeparatorRead
     SeparatorRead {
         progress: Progress {
             code: 0,
-            place: Place { start: 0, len: 0 },
+            place: NOWHERE,
             next,
         },
         last,

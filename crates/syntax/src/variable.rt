@@ -1,24 +1,26 @@
-// The number of a variable in its rule, by first occurrence.
+// The number of a variable in its rule, by first occurrence. The places of the variables met are lent.
 ghost use mathlib.Core.Path.{_≡_};
 ghost use mathlib.Core.List.{map};
-ghost use lib.ListN.{take};
+ghost use Prim.Native.Nat.{_*_, _≤_};
+ghost use lib.ListN.{length};
 ghost use Rattle.lexis.specs.Tokens.{part};
-ghost use Rattle.syntax.specs.Reads.{Fits};
-ghost use Rattle.syntax.specs.Terms.{first-among};
+ghost use Rattle.lexis.specs.Places.{places-in};
+ghost use Rattle.syntax.specs.Variables.{first-among};
 use lexis::Place;
-use rule::Variables;
-use rule::name::part;
-use rule::name::same_bytes;
+use lexis::parts::part;
+use lexis::parts::same_bytes;
+use lexis::places::place_in;
 
-// Which of the places met has the same bytes as `place`: the number of the first, or how many there are.
-pub fn variable_number(text: &[u8], place: Place, variables: Variables) -> usize
-    requires { ⌜ Fits variables ⌝ }
-    ensures { λ r. ⌜ r ≡ first-among (part (now (text .entry)) place) (map (part (now (text .entry))) (take (variables .count) (variables .places))) ⌝ }
+// Which of the `met` variables has the same bytes as `place`: the number of the first, or how many there are.
+pub fn variable_number(text: &[u8], place: Place, variables: &[u32], met: usize) -> usize
+    requires { ⌜ met * 2 ≤ length (now variables) ⌝ }
+    ensures { λ r. ⌜ r ≡ first-among (part (now (text .entry)) place) (map (part (now (text .entry))) (places-in (now (variables .entry)) met)) ⌝ }
 {
+    let name = part(text, place);
     let mut i = 0;
-    while i < variables.count {
-        let met = variables.places[i];
-        if same_bytes(part(text, place), part(text, met)) {
+    while i < met {
+        let earlier = place_in(variables, i);
+        if same_bytes(name, part(text, earlier)) {
             return i;
         }
         i += 1;

@@ -1,2 +1,5 @@
 pub mod Strides
 pub mod Predicates
+pub mod Stored
+pub mod RowParts
+pub mod Coded

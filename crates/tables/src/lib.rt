@@ -1,4 +1,5 @@
 // The tables that the engine works on: rows of numbers at fixed strides, lent by the caller. What they stand for is in specs.
+pub mod row;
 
 // The numbers of a fact: its predicate, and 8 columns for its arguments.
 pub const FACT: usize = 9;
@@ -38,6 +39,9 @@ pub const HEAD: u64 = 3;
 
 // A built-in without an operation.
 pub const NO_OPERATION: u64 = 3;
+
+// The rows of a rule's literals: its head's, and those of a body of 16 literals.
+pub const ROWS: usize = 17;
 
 // The numbers of a rule: its head's literal, first body literal, how many, whether it has an operation, how many equations bind, how many
 // literals are positive, and 16 places for each of the last two.

@@ -11,8 +11,8 @@ use checker::answer::Part;
 use checker::answer::Text;
 use derived::Derived;
 use derived::PLACES;
-use rule::MOST_LITERALS;
-use rule::least;
+use lexis::parts::least;
+use lexis::sizes::MOST_LITERALS;
 
 // A blank and a number of a list.
 fn item(n: u64) {

@@ -10,7 +10,7 @@ use crate::frame::read_bytes;
 use crate::places::fill;
 use checker::check;
 use lexis::Place;
-use rule::name::part;
+use lexis::parts::part;
 
 // The texts are the program, of this length, and the output behind it.
 fn trial(texts: &[u8], program_len: usize, output_len: usize, code: u64, places: &mut [u16]) {

@@ -2,9 +2,9 @@
 ghost use mathlib.Core.Path.{_≡_};
 ghost use Prim.Native.Nat.{_≤_};
 use lexis::Place;
+use lexis::parts::part;
+use lexis::parts::same_bytes;
 use libc::STDIN_FILENO;
-use rule::name::part;
-use rule::name::same_bytes;
 
 // The most bytes of a frame's first line.
 pub const MOST_LINE: usize = 64;

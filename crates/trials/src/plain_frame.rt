@@ -11,9 +11,9 @@ use crate::print::place;
 use crate::print::refused;
 use crate::print::say;
 use lexis::Place;
+use lexis::parts::part;
 use plain::Written;
 use plain::write_plain;
-use rule::name::part;
 
 // What a byte of the buffer is before the call.
 fn pattern(at: usize) -> u8 {

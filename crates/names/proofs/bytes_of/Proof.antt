@@ -17,7 +17,7 @@ returns : tie.Need-returns
 returns c = c .bytes-at .ensures ∙ nothing-at _ _ 0 ∙ sym (getD-past _ _ _ (let e = c .before .before .count .ensures in let h = c .before .if1 .taken in omega arith))
 
 place-requires : tie.Need-place-requires
-place-requires c κs = (c .before .before .before .before .before .pre .size, let r = c .before .before .before .before .before .pre .room in let e = c .before .count .ensures in let h = c .if1 .left in omega arith)
+place-requires c κs = let r = c .before .before .before .before .before .pre .room in let e = c .before .count .ensures in let h = c .if1 .left in omega arith
 
 bytes-at-requires-2 : tie.Need-bytes-at-requires-2
 bytes-at-requires-2 c κs = search needs

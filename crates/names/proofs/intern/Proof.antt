@@ -7,63 +7,70 @@ use borrow.Author.Needs.{needs}
 use Rattle.names.proofs.intern.Statement.{statement}
 use Rattle.names.proofs.intern.Tie as tie
 
-bytes-at-requires : tie.Need-bytes-at-requires
-bytes-at-requires c κs = search needs
-
 returns : tie.Need-returns
-returns c = (refl, inl (sym (c .before .bytes-at .ensures) ∙ nothing-long _ (c .if1 .taken)))
-
-slot-of-requires : tie.Need-slot-of-requires
-slot-of-requires c κs = search needs
-
-seek-requires : tie.Need-seek-requires
-seek-requires c κs = search needs
-
-enum-told : tie.Need-enum-told
-enum-told c = search needs
-
-same-length : tie.Need-same-length
-same-length c = search needs
+returns c = (refl, inl (nothing-long _ (c .if1 .taken)))
 
 returns-2 : tie.Need-returns-2
-returns-2 c = interned-held _ _ _ (c .before .before .before .before .before .before .before .before .before .before .pre) _ _ (c .before .before .before .before .before .before .bytes-at .ensures) _ (c .before .before .seek .ensures) (c .enum-told .given .0 .0) (c .enum-told .given .1)
-
-enum-told-2 : tie.Need-enum-told-2
-enum-told-2 c = search needs
+returns-2 c =
+    let seek = c .before .before in
+    let start = seek .before .before .before .before .before .before .before .before in
+    interned-held _ _ _ (start .pre .0) (start .args .start) _ (start .pre .1) _ (seek .seek .ensures) (c .enum-told .given .0 .0) (c .enum-told .given .1)
 
 count-requires : tie.Need-count-requires
-count-requires c κs = c .before .before .before .before .before .before .before .before .before .before .before .pre .size
+count-requires c κs = c .before .before .before .before .before .before .before .before .before .before .before .pre .0 .size
 
-same-length-2 : tie.Need-same-length-2
-same-length-2 c = search needs
+capacity-requires : tie.Need-capacity-requires
+capacity-requires c κs = c .before .before .before .before .before .before .before .before .before .before .before .before .before .pre .0 .size
 
 returns-3 : tie.Need-returns-3
-returns-3 c = interned-full _ _ _ (c .before .before .before .before .before .before .before .before .before .before .before .before .before .pre) _ _ (c .before .before .before .before .before .before .before .before .before .bytes-at .ensures) _ (c .before .before .before .before .before .seek .ensures) _ (c .before .count .ensures) (c .before .before .before .enum-told2 .given .1) (c .if2 .taken)
+returns-3 c =
+    let capacity = c .before in
+    let count = capacity .before .before in
+    let enum-told2 = count .before .before in
+    let seek = enum-told2 .before .before in
+    let start = seek .before .before .before .before .before .before .before .before in
+    interned-full _ _ _ (start .pre .0) (start .args .start) _ (start .pre .1) _ (seek .seek .ensures) _ (count .count .ensures) (enum-told2 .enum-told2 .given .1) (c .if2 .taken ∙ capacity .capacity .ensures)
 
 add-requires : tie.Need-add-requires
-add-requires c κs = addable _ _ _ (c .before .before .before .before .before .before .before .before .before .before .before .before .before .before .pre) _ _ (c .before .before .before .before .before .before .before .before .before .before .bytes-at .ensures) _ (c .before .before .before .before .before .before .seek .ensures) _ (c .before .before .count .ensures) (c .before .before .before .before .enum-told2 .given .1) _ (c .before .before .before .before .before .before .before .before .slot-of .ensures) (c .before .before .before .before .before .before .before .before .before .if1 .left) (c .before .if2 .left)
-
-same-length-3 : tie.Need-same-length-3
-same-length-3 c = search needs
+add-requires c κs =
+    let if2 = c .before in
+    let capacity = if2 .before in
+    let count = capacity .before .before in
+    let enum-told2 = count .before .before in
+    let seek = enum-told2 .before .before in
+    let slot-of = seek .before .before in
+    let if1 = slot-of .before in
+    let start = if1 .before .before .before .before .before in
+    addable _ _ _ (start .pre .0) (start .args .start) _ (start .pre .1) _ (seek .seek .ensures) _ (count .count .ensures) (enum-told2 .enum-told2 .given .1) _ (slot-of .slot-of .ensures) (if1 .if1 .left) (λ e. if2 .if2 .left (e ∙ sym (capacity .capacity .ensures)))
 
 returns-4 : tie.Need-returns-4
-returns-4 c = rw (c .before .before .add .ensures) (interned-new _ _ _ (c .before .before .before .before .before .before .before .before .before .before .before .before .before .before .before .before .before .pre) _ _ (c .before .before .before .before .before .before .before .before .before .before .before .before .before .bytes-at .ensures) _ (c .before .before .before .before .before .before .before .before .before .seek .ensures) _ (c .before .before .before .before .before .count .ensures) (c .before .before .before .before .before .before .before .enum-told2 .given .1) _ (c .before .before .before .before .before .before .before .before .before .before .before .slot-of .ensures) (c .before .before .before .before .before .before .before .before .before .before .before .before .if1 .left) (c .before .before .before .before .if2 .left))
+returns-4 c =
+    let add = c .before .before in
+    let if2 = add .before .before in
+    let capacity = if2 .before in
+    let count = capacity .before .before in
+    let enum-told2 = count .before .before in
+    let seek = enum-told2 .before .before in
+    let slot-of = seek .before .before in
+    let if1 = slot-of .before in
+    let start = if1 .before .before .before .before .before in
+    rw (add .add .ensures) (interned-new _ _ _ (start .pre .0) (start .args .start) _ (start .pre .1) _ (seek .seek .ensures) _ (count .count .ensures) (enum-told2 .enum-told2 .given .1) _ (slot-of .slot-of .ensures) (if1 .if1 .left) (λ e. if2 .if2 .left (e ∙ sym (capacity .capacity .ensures))))
 
 pub intern-spec : {M : Type 1} → statement M
 intern-spec =
     tie.close
     (tie.spec
-    bytes-at-requires
     returns
-    slot-of-requires
-    seek-requires
-    enum-told
-    same-length
+    (λ c κs. search needs)
+    (λ c κs. search needs)
+    (λ c. search needs)
+    (λ c. search needs)
     returns-2
-    enum-told-2
+    (λ c. search needs)
     count-requires
-    same-length-2
+    capacity-requires
+    (λ c. search needs)
     returns-3
     add-requires
-    same-length-3
+    (λ c. search needs)
     returns-4)

@@ -22,13 +22,18 @@ head-requires : tie.Need-head-requires Inv-loop μ-loop
 head-requires c κs = (c .before .before .before .before .pre .0 .size, slot-inside _ _ (c .before .before .before .before .pre .1))
 
 loop-holds : tie.Need-loop-holds Inv-loop μ-loop
-loop-holds c = rw (c .head .ensures) (seeking-starts _ _ _ _ (c .before .before .before .before .before .pre .1) _ (c .before .before .before .before .before .pre .0 .heads (c .before .before .before .before .before .args .slot) (slot-inside _ _ (c .before .before .before .before .before .pre .1))))
+loop-holds c =
+    let start = c .before .before .before .before .before in
+    rw (c .head .ensures) (seeking-starts _ _ _ _ (start .pre .1) _ (start .pre .0 .heads (start .args .slot) (slot-inside _ _ (start .pre .1))))
 
 sub-number : tie.Need-sub-number Inv-loop μ-loop
 sub-number c = search needs
 
 place-requires : tie.Need-place-requires Inv-loop μ-loop
-place-requires c κs = (c .before .before .before .before .before .before .before .pre .0 .size, let w = c .before .loop .inv .within in let r = c .before .before .before .before .before .before .before .pre .0 .room in omega arith)
+place-requires c κs =
+    let loop = c .before in
+    let start = loop .before .before .before .before .before .before in
+    let w = loop .loop .inv .within in let r = start .pre .0 .room in omega arith
 
 bytes-at-requires : tie.Need-bytes-at-requires Inv-loop μ-loop
 bytes-at-requires c κs = search needs
@@ -37,16 +42,37 @@ same-bytes-requires : tie.Need-same-bytes-requires Inv-loop μ-loop
 same-bytes-requires c κs = search needs
 
 returns : tie.Need-returns Inv-loop μ-loop
-returns c = seeking-found _ _ _ _ (c .before .before .before .before .before .before .before .before .before .before .before .pre .1) _ (c .before .before .before .before .before .loop .inv) (omega arith) (sym (name-read _ _ _ _ _ _ (c .before .before .before .place .ensures) (c .before .before .bytes-at .ensures)) ∙ same-bytes-sound _ _ (sym (c .before .same-bytes .ensures) ∙ c .if1 .taken))
+returns c =
+    let same-bytes = c .before in
+    let bytes-at = same-bytes .before in
+    let place = bytes-at .before in
+    let loop = place .before .before in
+    let start = loop .before .before .before .before .before .before in
+    seeking-found _ _ _ _ (start .pre .1) _ (loop .loop .inv) (omega arith) (sym (name-read _ _ _ _ _ _ (place .place .ensures) (bytes-at .bytes-at .ensures)) ∙ same-bytes-sound _ _ (sym (same-bytes .same-bytes .ensures) ∙ c .if1 .taken))
 
 link-requires : tie.Need-link-requires Inv-loop μ-loop
-link-requires c κs = (c .before .before .before .before .before .before .before .before .before .before .before .pre .0 .size, let w = c .before .before .before .before .before .loop .inv .within in let r = c .before .before .before .before .before .before .before .before .before .before .before .pre .0 .room in omega arith)
+link-requires c κs =
+    let loop = c .before .before .before .before .before in
+    let start = loop .before .before .before .before .before .before in
+    let w = loop .loop .inv .within in let r = start .pre .0 .room in omega arith
 
 loop-less : tie.Need-loop-less Inv-loop μ-loop
-loop-less c = let w = c .before .before .before .before .before .before .loop .inv .within in let h = c .before .before .before .before .before .loop-test .taken in let l = c .before .before .before .before .before .before .before .before .before .before .before .before .pre .0 .links (c .before .before .before .before .before .before .loop .link - 1) (omega arith) .within in let e = c .link .ensures in omega arith
+loop-less c =
+    let loop-test = c .before .before .before .before .before in
+    let loop = loop-test .before in
+    let start = loop .before .before .before .before .before .before in
+    let w = loop .loop .inv .within in let h = loop-test .loop-test .taken in let l = start .pre .0 .links (loop .loop .link - 1) (omega arith) .within in let e = c .link .ensures in omega arith
 
 loop-again : tie.Need-loop-again Inv-loop μ-loop
-loop-again c = rw (c .link .ensures) (seeking-on _ _ _ _ (c .before .before .before .before .before .before .before .before .before .before .before .before .pre .1) _ _ (c .before .before .before .before .before .before .loop .inv) (omega arith) (λ e. differs _ _ (sym (c .before .before .same-bytes .ensures) ∙ c .before .if1 .left) (name-read _ _ _ _ _ _ (c .before .before .before .before .place .ensures) (c .before .before .before .bytes-at .ensures) ∙ e)) (c .before .before .before .before .before .before .before .before .before .before .before .before .pre .0 .links (c .before .before .before .before .before .before .loop .link - 1) (let w = c .before .before .before .before .before .before .loop .inv .within in let h = c .before .before .before .before .before .loop-test .taken in omega arith)))
+loop-again c =
+    let if1 = c .before in
+    let same-bytes = if1 .before in
+    let bytes-at = same-bytes .before in
+    let place = bytes-at .before in
+    let loop-test = place .before in
+    let loop = loop-test .before in
+    let start = loop .before .before .before .before .before .before in
+    rw (c .link .ensures) (seeking-on _ _ _ _ (start .pre .1) _ _ (loop .loop .inv) (omega arith) (λ e. differs _ _ (sym (same-bytes .same-bytes .ensures) ∙ if1 .if1 .left) (name-read _ _ _ _ _ _ (place .place .ensures) (bytes-at .bytes-at .ensures) ∙ e)) (start .pre .0 .links (loop .loop .link - 1) (let w = loop .loop .inv .within in let h = loop-test .loop-test .taken in omega arith)))
 
 returns-2 : tie.Need-returns-2 Inv-loop μ-loop
 returns-2 c = seeking-none _ _ _ _ (c .before .before .before .before .before .before .before .pre .1) _ (c .before .loop .inv) (c .loop-test .left)

@@ -4,6 +4,7 @@ use Rattle.codes.specs.Codes.{first-name}
 use Rattle.names.proofs.Firsts.{getD-past}
 use borrow.Author.Tests.{lt-ltb, le-ltb}
 use mathlib.Core.Path.{_∙_}
+use native.Mathlib.Omega.{arith}
 use borrow.Author.Needs.{needs}
 use Rattle.order.proofs.text_of.Statement.{statement}
 use Rattle.order.proofs.text_of.Tie as tie
@@ -13,7 +14,7 @@ bytes-of-requires c κs = search needs
 
 returns : tie.Need-returns
 unfolding text-of
-returns c = rw (lt-ltb (c .before .before .before .before .before .args .code) first-name (c .before .if1 .taken)) (c .bytes-of .ensures ∙ getD-past _ _ _ (c .before .before .before .before .before .pre .room))
+returns c = rw (lt-ltb (c .before .before .before .before .before .args .code) first-name (c .before .if1 .taken)) (c .bytes-of .ensures ∙ getD-past _ _ _ (let r = c .before .before .before .before .before .pre .room in omega arith))
 
 bytes-of-requires-2 : tie.Need-bytes-of-requires-2
 bytes-of-requires-2 c κs = search needs

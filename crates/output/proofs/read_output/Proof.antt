@@ -1,77 +1,69 @@
 -- `read_output` meets its contract: stage by stage, each with its own law. Assumes nothing.
 use native.Mathlib.Omega.{arith}
 use Rattle.report.specs.declared.word.Word.the-variants.{Answer, Inconsistent, Unknown}
-use Rattle.output.specs.Output.{claim-none, claim-unknown}
-use Rattle.output.proofs.Stages.{closing-given, too-long, line-inside, opening-refused, goes-behind}
+use Rattle.output.proofs.Stages.{closing-none, closing-unknown, too-long, line-fillable, opening-refused, goes-behind}
 use borrow.Author.Needs.{needs}
 use Rattle.output.proofs.read_output.Statement.{statement}
 use Rattle.output.proofs.read_output.Tie as tie
 
-refused-requires : tie.Need-refused-requires
-refused-requires c κs = search needs
-
 returns : tie.Need-returns
-returns c = too-long _ (c .before .if1 .taken) _ (c .refused .ensures)
-
-find-report-requires : tie.Need-find-report-requires
-find-report-requires c κs = search needs
-
-refused-requires-2 : tie.Need-refused-requires-2
-refused-requires-2 c κs = search needs
+returns c = too-long _ _ _ _ (c .before .if1 .taken) _ (c .refused .ensures)
 
 returns-2 : tie.Need-returns-2
-returns-2 c = opening-refused _ (λ h. omega arith) _ (c .before .before .before .before .find-report .ensures) (c .before .before .if2 .taken) _ (c .refused2 .ensures)
-
-enum-told : tie.Need-enum-told
-enum-told c = search needs
+returns-2 c = opening-refused _ _ _ _ (λ h. omega arith) _ (c .before .before .before .before .find-report .ensures) (c .before .before .if2 .taken) _ (c .refused2 .ensures)
 
 answered-requires : tie.Need-answered-requires
-answered-requires c κs = line-inside _ _ (c .before .before .before .before .before .find-report .ensures)
-
-enum-told-2 : tie.Need-enum-told-2
-enum-told-2 c = search needs
-
-reported-requires : tie.Need-reported-requires
-reported-requires c κs = search needs
-
-closed-requires : tie.Need-closed-requires
-closed-requires c κs = search needs
-
-enum-told-3 : tie.Need-enum-told-3
-enum-told-3 c = search needs
-
-reported-requires-2 : tie.Need-reported-requires-2
-reported-requires-2 c κs = search needs
-
-closed-requires-2 : tie.Need-closed-requires-2
-closed-requires-2 c κs = search needs
+answered-requires c κs =
+    let find-report = c .before .before .before .before .before .before .before .before .before .before in
+    let start = find-report .before .before .before .before .before .before .before .before .before in
+    line-fillable _ _ _ (λ h. omega arith) _ (find-report .find-report .ensures) (start .pre)
 
 returns-3 : tie.Need-returns-3
-returns-3 c = goes-behind _ (λ h. omega arith) _ (c .before .before .before .before .before .before .find-report .ensures) (c .before .before .before .before .if2 .left) Answer (c .before .enum-told .given .1) _ (c .answered .ensures)
+returns-3 c =
+    let answered = c .before .before .before .before .before .before .before .before .before .before in
+    let enum-told = answered .before .before .before .before .before .before in
+    let if2 = enum-told .before .before .before in
+    let find-report = if2 .before .before in
+    goes-behind _ _ _ _ (λ h. omega arith) _ (find-report .find-report .ensures) (if2 .if2 .left) Answer (enum-told .enum-told .given .1) _ (answered .answered .ensures)
 
 returns-4 : tie.Need-returns-4
-returns-4 c = goes-behind _ (λ h. omega arith) _ (c .before .before .before .before .before .before .before .find-report .ensures) (c .before .before .before .before .before .if2 .left) Inconsistent (c .before .before .enum-told2 .given .1) _ (closing-given _ _ _ claim-none (c .before .reported .ensures) _ (c .closed .ensures))
+returns-4 c =
+    let reported = c .before in
+    let enum-told2 = reported .before in
+    let if2 = enum-told2 .before .before .before in
+    let find-report = if2 .before .before in
+    goes-behind _ _ _ _ (λ h. omega arith) _ (find-report .find-report .ensures) (if2 .if2 .left) Inconsistent (enum-told2 .enum-told2 .given .1) _ (closing-none _ _ _ _ _ _ (reported .reported .ensures) _ (c .closed .ensures))
 
 returns-5 : tie.Need-returns-5
-returns-5 c = goes-behind _ (λ h. omega arith) _ (c .before .before .before .before .before .before .before .find-report .ensures) (c .before .before .before .before .before .if2 .left) Unknown (c .before .before .enum-told3 .given .1) _ (closing-given _ _ _ claim-unknown (c .before .reported2 .ensures) _ (c .closed2 .ensures))
+returns-5 c =
+    let reported2 = c .before in
+    let enum-told3 = reported2 .before in
+    let if2 = enum-told3 .before .before .before in
+    let find-report = if2 .before .before in
+    goes-behind _ _ _ _ (λ h. omega arith) _ (find-report .find-report .ensures) (if2 .if2 .left) Unknown (enum-told3 .enum-told3 .given .1) _ (closing-unknown _ _ _ _ _ _ (reported2 .reported2 .ensures) _ (c .closed2 .ensures))
 
 pub read-output-spec : {M : Type 1} → statement M
 read-output-spec =
     tie.close
     (tie.spec
-    refused-requires
+    (λ c κs. search needs)
     returns
-    find-report-requires
-    refused-requires-2
+    (λ c κs. search needs)
+    (λ c κs. search needs)
     returns-2
-    enum-told
+    (λ c. search needs)
     answered-requires
-    enum-told-2
-    reported-requires
-    closed-requires
-    enum-told-3
-    reported-requires-2
-    closed-requires-2
+    (λ c. search needs)
+    (λ c κs. search needs)
+    (λ c κs. search needs)
+    (λ c. search needs)
+    (λ c κs. search needs)
+    (λ c κs. search needs)
+    (λ c. search needs)
+    (λ c. search needs)
+    (λ c. search needs)
+    (λ c. search needs)
+    (λ c. search needs)
     returns-3
     returns-4
     returns-5)

@@ -1,7 +1,7 @@
 -- `to_dot` meets its contract: the first token stands before the end of the first dot. Assumes nothing.
 use native.Mathlib.Omega.{arith}
 use mathlib.Core.Path.{sym as inv, ap, _∙_}
-use Rattle.syntax.specs.Rules.{between}
+use Rattle.sentences.specs.Sentences.{between}
 use Rattle.sentences.proofs.Dots.{no-token, start-before, first-to-dot}
 use borrow.Author.Needs.{needs}
 use Rattle.sentences.proofs.to_dot.Statement.{statement}

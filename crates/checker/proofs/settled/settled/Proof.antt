@@ -19,7 +19,10 @@ same-length : tie.Need-same-length
 same-length c = search needs
 
 returns : tie.Need-returns
-returns c = λ P I s. gives _ _ _ _ _ _ _ _ _ P I s _ _ (c .before .before .before .before .before .before .before .before .before .before .before .before .before .pre .room) (c .before .before .before .judge .result) (c .before .before .before .judge .ensures) _ (c .verdict .ensures)
+returns c =
+    let judge = c .before .before .before in
+    let start = judge .before .before .before .before .before .before .before .before .before .before in
+    λ P I s. gives _ _ _ _ _ _ _ _ _ P I s _ _ (start .pre .room) (judge .judge .result) (judge .judge .ensures) _ (c .verdict .ensures)
 
 pub settled-spec : {M : Type 1} → statement M
 settled-spec = tie.close (tie.spec judge-requires verdict-requires same-length returns)

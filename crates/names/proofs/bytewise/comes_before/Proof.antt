@@ -34,7 +34,12 @@ shared-slice-read-result-2 : tie.Need-shared-slice-read-result-2 Inv-loop μ-loo
 shared-slice-read-result-2 c = search needs
 
 returns-2 : tie.Need-returns-2 Inv-loop μ-loop
-returns-2 c = sym (c .before .before .before .before .before .before .before .loop .inv ∙ before-differs _ _ _ (c .before .before .before .before .before .before .loop-test .taken) (c .before .before .before .before .before .if1 .left) (c .before .before .if2 .taken))
+returns-2 c =
+    let if2 = c .before .before in
+    let if1 = if2 .before .before .before in
+    let loop-test = if1 .before in
+    let loop = loop-test .before in
+    sym (loop .loop .inv ∙ before-differs _ _ _ (loop-test .loop-test .taken) (if1 .if1 .left) (if2 .if2 .taken))
 
 add-i : tie.Need-add-i Inv-loop μ-loop
 add-i c = search needs
@@ -43,7 +48,11 @@ loop-less : tie.Need-loop-less Inv-loop μ-loop
 loop-less c = search needs
 
 loop-again : tie.Need-loop-again Inv-loop μ-loop
-loop-again c = c .before .before .before .before .before .loop .inv ∙ before-on _ _ _ (c .before .before .before .before .loop-test .taken) (c .before .before .before .if1 .left) (c .if2 .left)
+loop-again c =
+    let if1 = c .before .before .before in
+    let loop-test = if1 .before in
+    let loop = loop-test .before in
+    loop .loop .inv ∙ before-on _ _ _ (loop-test .loop-test .taken) (if1 .if1 .left) (c .if2 .left)
 
 returns-3 : tie.Need-returns-3 Inv-loop μ-loop
 returns-3 c = sym (c .before .loop .inv ∙ before-end _ _ _ (c .loop-test .left))

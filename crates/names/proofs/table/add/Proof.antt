@@ -16,42 +16,50 @@ mul-at c = search needs
 add-at : tie.Need-add-at
 add-at c = search needs
 
-put-requires : tie.Need-put-requires
-put-requires c κs = search needs
+put-number-requires : tie.Need-put-number-requires
+put-number-requires c κs = search needs
 
-add-put : tie.Need-add-put
-add-put c = search needs
+add-put-number : tie.Need-add-put-number
+add-put-number c = search needs
 
-put-requires-2 : tie.Need-put-requires-2
-put-requires-2 c κs = search needs
+put-number-requires-2 : tie.Need-put-number-requires-2
+put-number-requires-2 c κs = search needs
 
-add-put-2 : tie.Need-add-put-2
-add-put-2 c = search needs
+add-put-number-2 : tie.Need-add-put-number-2
+add-put-number-2 c = search needs
 
-put-requires-3 : tie.Need-put-requires-3
-put-requires-3 c κs = search needs
+put-number-requires-3 : tie.Need-put-number-requires-3
+put-number-requires-3 c κs = search needs
 
-add-put-3 : tie.Need-add-put-3
-add-put-3 c = search needs
+add-put-number-3 : tie.Need-add-put-number-3
+add-put-number-3 c = search needs
 
-add-put-4 : tie.Need-add-put-4
-add-put-4 c = search needs
+add-put-number-4 : tie.Need-add-put-number-4
+add-put-number-4 c = search needs
 
-put-requires-4 : tie.Need-put-requires-4
-put-requires-4 c κs = search needs
+put-number-requires-4 : tie.Need-put-number-requires-4
+put-number-requires-4 c κs = search needs
 
-add-put-5 : tie.Need-add-put-5
-add-put-5 c = search needs
+add-put-number-5 : tie.Need-add-put-number-5
+add-put-number-5 c = search needs
 
-put-requires-5 : tie.Need-put-requires-5
-put-requires-5 c κs = search needs
+put-number-requires-5 : tie.Need-put-number-requires-5
+put-number-requires-5 c κs = search needs
 
 same-length : tie.Need-same-length
 same-length c = search needs
 
 returns : tie.Need-returns
 unfolding with-row
-returns c = rw (c .before .before .put5 .ensures, c .before .before .before .before .before .before .put4 .ensures, c .before .before .before .before .before .before .before .before .before .before .put3 .ensures, c .before .before .before .before .before .before .before .before .before .before .before .before .before .before .put2 .ensures, c .before .before .before .before .before .before .before .before .before .before .before .before .before .before .before .before .before .before .put .ensures, c .before .before .before .before .before .before .before .before .before .before .before .before .before .before .before .before .before .before .before .before .before .before .count .ensures, c .before .before .before .before .before .before .before .before .before .before .before .before .before .before .before .before .before .before .before .before .head .ensures)
+returns c =
+    let put-number5 = c .before .before in
+    let put-number4 = put-number5 .before .before .before .before in
+    let put-number3 = put-number4 .before .before .before .before in
+    let put-number2 = put-number3 .before .before .before .before in
+    let put-number = put-number2 .before .before .before .before in
+    let head = put-number .before .before in
+    let count = head .before .before in
+    rw (put-number5 .put-number5 .ensures, put-number4 .put-number4 .ensures, put-number3 .put-number3 .ensures, put-number2 .put-number2 .ensures, put-number .put-number .ensures, count .count .ensures, head .head .ensures)
 
 pub add-spec : {M : Type 1} → statement M
 add-spec =
@@ -61,15 +69,15 @@ add-spec =
     head-requires
     mul-at
     add-at
-    put-requires
-    add-put
-    put-requires-2
-    add-put-2
-    put-requires-3
-    add-put-3
-    add-put-4
-    put-requires-4
-    add-put-5
-    put-requires-5
+    put-number-requires
+    add-put-number
+    put-number-requires-2
+    add-put-number-2
+    put-number-requires-3
+    add-put-number-3
+    add-put-number-4
+    put-number-requires-4
+    add-put-number-5
+    put-number-requires-5
     same-length
     returns)

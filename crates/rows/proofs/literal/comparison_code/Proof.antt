@@ -1,7 +1,7 @@
 -- `literal::comparison_code` meets its contract, sign by sign. Assumes nothing.
 use borrow.Author.Tests.{eq-eqb, ne-eqb}
 use Rattle.codes.specs.Arithmetic.{comparison-at}
-use Rattle.rule.specs.Stands.{comparison-of}
+use Rattle.syntax.specs.Builtins.{comparison-of}
 use Rattle.rows.proofs.literal.comparison_code.Statement.{statement}
 use Rattle.rows.proofs.literal.comparison_code.Tie as tie
 
@@ -27,11 +27,23 @@ returns-5 c = rw (ne-eqb _ _ (c .before .before .before .before .if1 .left), ne-
 
 returns-6 : tie.Need-returns-6
 unfolding comparison-at comparison-of
-returns-6 c = rw (ne-eqb _ _ (c .before .before .before .before .before .if1 .left), ne-eqb _ _ (c .before .before .before .before .if2 .left), ne-eqb _ _ (c .before .before .before .if3 .left), ne-eqb _ _ (c .before .before .if4 .left), ne-eqb _ _ (c .before .if5 .left), eq-eqb _ _ (c .if6 .taken))
+returns-6 c =
+    let if5 = c .before in
+    let if4 = if5 .before in
+    let if3 = if4 .before in
+    let if2 = if3 .before in
+    let if1 = if2 .before in
+    rw (ne-eqb _ _ (if1 .if1 .left), ne-eqb _ _ (if2 .if2 .left), ne-eqb _ _ (if3 .if3 .left), ne-eqb _ _ (if4 .if4 .left), ne-eqb _ _ (if5 .if5 .left), eq-eqb _ _ (c .if6 .taken))
 
 returns-7 : tie.Need-returns-7
 unfolding comparison-at comparison-of
-returns-7 c = rw (ne-eqb _ _ (c .before .before .before .before .before .if1 .left), ne-eqb _ _ (c .before .before .before .before .if2 .left), ne-eqb _ _ (c .before .before .before .if3 .left), ne-eqb _ _ (c .before .before .if4 .left), ne-eqb _ _ (c .before .if5 .left), ne-eqb _ _ (c .if6 .left))
+returns-7 c =
+    let if5 = c .before in
+    let if4 = if5 .before in
+    let if3 = if4 .before in
+    let if2 = if3 .before in
+    let if1 = if2 .before in
+    rw (ne-eqb _ _ (if1 .if1 .left), ne-eqb _ _ (if2 .if2 .left), ne-eqb _ _ (if3 .if3 .left), ne-eqb _ _ (if4 .if4 .left), ne-eqb _ _ (if5 .if5 .left), ne-eqb _ _ (c .if6 .left))
 
 pub comparison-code-spec : {M : Type 1} → statement M
 comparison-code-spec =

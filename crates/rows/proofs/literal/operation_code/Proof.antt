@@ -2,7 +2,7 @@
 use native.Mathlib.Omega.{arith}
 use borrow.Author.Tests.{eq-eqb, ne-eqb}
 use Rattle.codes.specs.Arithmetic.{operation-at}
-use Rattle.rule.specs.Stands.{operation-of}
+use Rattle.syntax.specs.Builtins.{operation-of}
 use Rattle.rows.proofs.literal.operation_code.Statement.{statement}
 use Rattle.rows.proofs.literal.operation_code.Tie as tie
 

@@ -12,16 +12,29 @@ gone-requires : tie.Need-gone-requires
 gone-requires c κs = search needs
 
 returns : tie.Need-returns
-returns c = is-comma (c .before .before .before .before .before .args .ground) (c .before .before .before .before .before .args .text .now) (c .before .before .before .before .before .args .at) (c .before .before .before .before .before .args .mark) _ (c .before .before .before .token-at .ensures) _ (c .before .if1 .taken) (c .gone .ensures)
+returns c =
+    let if1 = c .before in
+    let token-at = if1 .before .before in
+    let start = token-at .before .before in
+    is-comma (start .args .ground) (start .args .text .now) (start .args .at) (start .args .mark) _ (token-at .token-at .ensures) _ (if1 .if1 .taken) (c .gone .ensures)
 
 gone-requires-2 : tie.Need-gone-requires-2
 gone-requires-2 c κs = search needs
 
 returns-2 : tie.Need-returns-2
-returns-2 c = is-last (c .before .before .before .before .before .before .before .args .ground) (c .before .before .before .before .before .before .before .args .text .now) (c .before .before .before .before .before .before .before .args .at) (c .before .before .before .before .before .before .before .args .mark) _ (c .before .before .before .before .before .token-at .ensures) _ (c .before .if2 .taken) (c .gone2 .ensures)
+returns-2 c =
+    let if2 = c .before in
+    let token-at = if2 .before .before .before .before in
+    let start = token-at .before .before in
+    is-last (start .args .ground) (start .args .text .now) (start .args .at) (start .args .mark) _ (token-at .token-at .ensures) _ (if2 .if2 .taken) (c .gone2 .ensures)
 
 returns-3 : tie.Need-returns-3
-returns-3 c = is-neither (c .before .before .before .before .before .before .before .args .ground) (c .before .before .before .before .before .before .before .args .text .now) (c .before .before .before .before .before .before .before .args .at) (c .before .before .before .before .before .before .before .args .mark) _ (c .before .before .before .before .before .token-at .ensures) _ (c .before .before .before .if1 .left) (c .before .if2 .left) refl
+returns-3 c =
+    let if2 = c .before in
+    let if1 = if2 .before .before in
+    let token-at = if1 .before .before in
+    let start = token-at .before .before in
+    is-neither (start .args .ground) (start .args .text .now) (start .args .at) (start .args .mark) _ (token-at .token-at .ensures) _ (if1 .if1 .left) (if2 .if2 .left) refl
 
 pub separator-at-spec : {M : Type 1} → statement M
 separator-at-spec =

@@ -12,10 +12,17 @@ kind-number-requires : tie.Need-kind-number-requires
 kind-number-requires c κs = search needs
 
 add-t9 : tie.Need-add-t9
-add-t9 c = omega (arith, read-inside (c .before .before .before .before .before .args .ground) (c .before .before .before .before .before .args .text .now) (c .before .before .before .before .before .args .at) _ (c .before .before .before .next-token .ensures))
+add-t9 c =
+    let next-token = c .before .before .before in
+    let start = next-token .before .before in
+    omega (arith, read-inside (start .args .ground) (start .args .text .now) (start .args .at) _ (next-token .next-token .ensures))
 
 returns : tie.Need-returns
-returns c = as-read (c .before .before .before .before .before .args .ground) (c .before .before .before .before .before .args .text .now) (c .before .before .before .before .before .args .at) _ (c .before .before .before .next-token .ensures) _ (c .before .kind-number .ensures)
+returns c =
+    let kind-number = c .before in
+    let next-token = kind-number .before .before in
+    let start = next-token .before .before in
+    as-read (start .args .ground) (start .args .text .now) (start .args .at) _ (next-token .next-token .ensures) _ (kind-number .kind-number .ensures)
 
 pub token-at-spec : {M : Type 1} → statement M
 token-at-spec = tie.close (tie.spec next-token-requires kind-number-requires add-t9 returns)

@@ -2,33 +2,31 @@
 -- passed and its number among the others. The measure is how many are left. Assumes nothing.
 use Prim.Native.Nat.{_+_, _-_, _≤_}
 use native.Mathlib.Omega.{arith}
-use mathlib.Core.Path.{_≡_}
-use lib.ListN.{take, drop}
+use mathlib.Core.Path.{_≡_, refl, ap}
 use mathlib.Core.List.{map}
+use lib.ListN.{drop}
 use Rattle.lexis.specs.Tokens.{part}
-use Rattle.syntax.specs.Terms.{first-among}
+use Rattle.lexis.specs.Places.{places-in}
+use Rattle.syntax.specs.Variables.{first-among}
 use Rattle.syntax.proofs.Variables.{among-here, among-on, among-end}
 use borrow.Author.Needs.{needs}
 use Rattle.syntax.proofs.variable.variable_number.Statement.{statement}
 use Rattle.syntax.proofs.variable.variable_number.Tie as tie
 
 abbrev Inv-loop : tie.InvT-loop
-Inv-loop text place variables i₀ i = (i ≤ variables .count) × (first-among (part text place) (map (part text) (take (variables .count) (variables .places))) ≡ i + first-among (part text place) (drop i (map (part text) (take (variables .count) (variables .places)))))
+Inv-loop text variables met name i₀ i = (i ≤ met) × (first-among name (map (part text) (places-in variables met)) ≡ i + first-among name (drop i (map (part text) (places-in variables met))))
 
 abbrev μ-loop : tie.MeasureT-loop
-μ-loop text place variables i₀ i = variables .count - i
+μ-loop text variables met name i₀ i = met - i
+
+part-requires : tie.Need-part-requires Inv-loop μ-loop
+part-requires c κs = search needs
 
 loop-holds : tie.Need-loop-holds Inv-loop μ-loop
 loop-holds c = (omega arith, omega arith)
 
-mul-met : tie.Need-mul-met Inv-loop μ-loop
-mul-met c = search needs
-
-element-copy-out-met : tie.Need-element-copy-out-met Inv-loop μ-loop
-element-copy-out-met c = search needs
-
-part-requires : tie.Need-part-requires Inv-loop μ-loop
-part-requires c κs = search needs
+place-in-requires : tie.Need-place-in-requires Inv-loop μ-loop
+place-in-requires c κs = search needs
 
 part-requires-2 : tie.Need-part-requires-2 Inv-loop μ-loop
 part-requires-2 c κs = search needs
@@ -37,7 +35,16 @@ same-bytes-requires : tie.Need-same-bytes-requires Inv-loop μ-loop
 same-bytes-requires c κs = search needs
 
 returns : tie.Need-returns Inv-loop μ-loop
-returns c = omega (arith, c .before .before .before .before .before .before .loop .inv .1, among-here (c .before .before .before .before .before .before .before .before .args .text .now) _ (c .before .before .before .before .before .before .before .before .args .t3) (c .before .before .before .before .before .before .before .before .pre) (c .before .before .before .before .before .before .loop .i) (omega arith) _ _ (c .before .before .before .part .ensures) (c .before .before .part2 .ensures) _ (c .before .same-bytes .ensures) (c .if1 .taken))
+returns c =
+    let same-bytes = c .before in
+    let part2 = same-bytes .before in
+    let place-in = part2 .before in
+    let loop = place-in .before .before in
+    let at-part = loop .before in
+    let start = at-part .before .before .before in
+    let h = among-here (start .args .text .now) (at-part .part .result .now) (start .args .variables .now) (start .args .met) (loop .loop .i) (omega arith) _ _ refl _ (place-in .place-in .ensures) (part2 .part2 .ensures) _ (same-bytes .same-bytes .ensures) (c .if1 .taken) in
+    let e = ap (λ b. first-among b (map (part (start .args .text .now)) (places-in (start .args .variables .now) (start .args .met)))) (at-part .part .ensures) in
+    omega (arith, loop .loop .inv .1)
 
 add-i : tie.Need-add-i Inv-loop μ-loop
 add-i c = search needs
@@ -46,10 +53,23 @@ loop-less : tie.Need-loop-less Inv-loop μ-loop
 loop-less c = search needs
 
 loop-again : tie.Need-loop-again Inv-loop μ-loop
-loop-again c = (omega arith, omega (arith, c .before .before .before .before .before .before .loop .inv .1, among-on (c .before .before .before .before .before .before .before .before .args .text .now) _ (c .before .before .before .before .before .before .before .before .args .t3) (c .before .before .before .before .before .before .before .before .pre) (c .before .before .before .before .before .before .loop .i) (omega arith) _ _ (c .before .before .before .part .ensures) (c .before .before .part2 .ensures) _ (c .before .same-bytes .ensures) (c .if1 .left)))
+loop-again c =
+    let same-bytes = c .before in
+    let part2 = same-bytes .before in
+    let place-in = part2 .before in
+    let loop = place-in .before .before in
+    let at-part = loop .before in
+    let start = at-part .before .before .before in
+    (omega arith, let h = among-on (start .args .text .now) (at-part .part .result .now) (start .args .variables .now) (start .args .met) (loop .loop .i) (omega arith) _ _ refl _ (place-in .place-in .ensures) (part2 .part2 .ensures) _ (same-bytes .same-bytes .ensures) (c .if1 .left) in omega (arith, loop .loop .inv .1))
 
 returns-2 : tie.Need-returns-2 Inv-loop μ-loop
-returns-2 c = omega (arith, c .before .loop .inv .1, among-end (c .before .before .before .args .text .now) (part (c .before .before .before .args .text .now) (c .before .before .before .args .place)) (c .before .before .before .args .t3) (c .before .before .before .pre) (c .before .loop .i) (omega arith))
+returns-2 c =
+    let loop = c .before in
+    let at-part = loop .before in
+    let start = at-part .before .before .before in
+    let h = among-end (start .args .text .now) (at-part .part .result .now) (start .args .variables .now) (start .args .met) (loop .loop .i) (omega arith) in
+    let e = ap (λ b. first-among b (map (part (start .args .text .now)) (places-in (start .args .variables .now) (start .args .met)))) (at-part .part .ensures) in
+    omega (arith, loop .loop .inv .1)
 
 pub variable-number-spec : {M : Type 1} → statement M
 variable-number-spec =
@@ -57,10 +77,9 @@ variable-number-spec =
     (tie.spec
     Inv-loop
     μ-loop
-    loop-holds
-    mul-met
-    element-copy-out-met
     part-requires
+    loop-holds
+    place-in-requires
     part-requires-2
     same-bytes-requires
     returns

@@ -1,0 +1,5 @@
+-- In the order to read them in.
+pub mod Readiness
+pub mod TermLaws
+pub mod ArgumentLists
+pub mod AtomLaws

@@ -1,0 +1,25 @@
+-- What is asked where reading stands at a cursor.
+use Prim.Native.Nat.{ℕ, _-_, _≤_}
+use mathlib.Core.List.{List}
+use lib.ListN.{length}
+use Rattle.lexis.specs.declared.Place.{Place}
+use Rattle.lexis.specs.Places.{places-in}
+use Rattle.meaning.specs.Rules.{Bytes}
+use Rattle.grammar.specs.Sizes.{most-variables}
+use Rattle.names.specs.Table.{text-size}
+use Rattle.rows.specs.Growth.{Room, Source}
+use Rattle.atoms.specs.declared.cursor.Cursor.{Cursor}
+
+-- the text stands in the two texts, the table of names has room for as many names as there are bytes ahead, and the variables' table for as
+-- many as a rule may have
+pub record Ready (program output text : Bytes) (names variables : List ℕ) (k : Cursor) : Type 0 where
+  pub source : Source program output text (k .base)
+  pub short : length text ≤ text-size
+  pub inside : k .at ≤ length text
+  pub room : Room program output names (length text - k .at)
+  pub few : k .met ≤ most-variables
+  pub long : 32 ≤ length variables
+
+-- the variables met before
+abbrev pub met-before : List ℕ → Cursor → List Place
+met-before variables k = places-in variables (k .met)

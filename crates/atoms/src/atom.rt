@@ -1,0 +1,181 @@
+// A classical atom, read as its predicate's number and its terms': perhaps a minus, a name, perhaps arguments.
+ghost use mathlib.Core.Path.{_≡_};
+ghost use Prim.Native.Nat.{_<_};
+ghost use Rattle.names.specs.Table.{most-names};
+ghost use Rattle.atoms.specs.Cursors.{Ready};
+ghost use Rattle.atoms.specs.Atoms.{stoppedAtom, goneAtom, ReadsNamed, ReadsMinus, ReadsAtom};
+use crate::arguments::arguments_at;
+use crate::cursor::Cursor;
+use codes::predicate;
+use lexis::NOWHERE;
+use lexis::Place;
+use lexis::kind::MINUS;
+use lexis::kind::NAME;
+use lexis::kind::OPEN;
+use lexis::sizes::MOST_ARGUMENTS;
+use rows::literal::AtomCodes;
+use rows::term::name_number;
+use syntax::token::Progress;
+use syntax::token::token_at;
+use syntax::word::OVER;
+use syntax::word::WRONG;
+use syntax::word::word_code;
+
+// An atom's numbers, and how many variables have been met behind it.
+pub struct AtomRead {
+    pub progress: Progress,
+    pub codes: AtomCodes,
+    pub met: usize,
+}
+
+// The name of an atom, by its number, and whether a minus stands before it.
+pub struct SignedName {
+    pub negative: bool,
+    pub number: usize,
+}
+
+fn stopped(code: u8, place: Place, met: usize) -> AtomRead
+    ensures { λ r. ⌜ r ≡ stoppedAtom code place met ⌝ }
+{
+    AtomRead {
+        progress: Progress {
+            code,
+            place,
+            next: 0,
+        },
+        codes: AtomCodes {
+            predicate: 0,
+            terms: [0; MOST_ARGUMENTS],
+        },
+        met,
+    }
+}
+
+fn gone(predicate: u64, terms: [u64; MOST_ARGUMENTS], next: usize, met: usize) -> AtomRead
+    ensures { λ r. ⌜ r ≡ goneAtom predicate terms next met ⌝ }
+{
+    AtomRead {
+        progress: Progress {
+            code: 0,
+            place: NOWHERE,
+            next,
+        },
+        codes: AtomCodes { predicate, terms },
+        met,
+    }
+}
+
+// The atom whose name ends before the cursor: perhaps arguments.
+pub fn named_atom<'a>(
+    program: &'a [u8],
+    output: &'a [u8],
+    text: &'a [u8],
+    names: &mut [u32],
+    variables: &mut [u32],
+    cursor: Cursor,
+    name: SignedName,
+) -> AtomRead
+    requires { ⌜ Ready (now program) (now output) (now text) (now names) (now variables) cursor × (name .number < most-names) ⌝ }
+    ensures { λ r. ⌜ ReadsNamed (now (program .entry)) (now (output .entry)) (now (text .entry)) (now (names .entry)) (now (variables .entry)) cursor name r (now (names .exit)) (now (variables .exit)) ⌝ }
+{
+    let token = token_at(text, cursor.at, cursor.ground);
+    let number = name.number as u64;
+    if token.kind != OPEN {
+        let alone = predicate(name.negative, number, 0);
+        return gone(alone, [0; MOST_ARGUMENTS], cursor.at, cursor.met);
+    }
+    let inside = Cursor {
+        base: cursor.base,
+        at: token.next,
+        ground: cursor.ground,
+        over: false,
+        met: cursor.met,
+    };
+    let read = arguments_at(program, output, text, names, variables, inside);
+    let progress = read.progress;
+    if progress.code != 0 {
+        let place = progress.place;
+        return stopped(progress.code, place, read.met);
+    }
+    let terms = read.terms;
+    let with_arguments = predicate(name.negative, number, read.count as u64);
+    gone(with_arguments, terms, progress.next, read.met)
+}
+
+// The atom whose minus ends before the cursor.
+pub fn minus_atom<'a>(
+    program: &'a [u8],
+    output: &'a [u8],
+    text: &'a [u8],
+    names: &mut [u32],
+    variables: &mut [u32],
+    cursor: Cursor,
+) -> AtomRead
+    requires { ⌜ Ready (now program) (now output) (now text) (now names) (now variables) cursor ⌝ }
+    ensures { λ r. ⌜ ReadsMinus (now (program .entry)) (now (output .entry)) (now (text .entry)) (now (names .entry)) (now (variables .entry)) cursor r (now (names .exit)) (now (variables .exit)) ⌝ }
+{
+    let token = token_at(text, cursor.at, cursor.ground);
+    let place = token.place;
+    if token.kind != NAME {
+        return stopped(WRONG, place, cursor.met);
+    }
+    let code = word_code(place, false);
+    if code != 0 {
+        return stopped(code, place, cursor.met);
+    }
+    let number = name_number(program, output, text, names, cursor.base, place);
+    let behind = Cursor {
+        base: cursor.base,
+        at: token.next,
+        ground: cursor.ground,
+        over: false,
+        met: cursor.met,
+    };
+    let name = SignedName {
+        negative: true,
+        number,
+    };
+    named_atom(program, output, text, names, variables, behind, name)
+}
+
+// The atom where the cursor stands, as a head or behind `not`.
+pub fn atom_at<'a>(
+    program: &'a [u8],
+    output: &'a [u8],
+    text: &'a [u8],
+    names: &mut [u32],
+    variables: &mut [u32],
+    cursor: Cursor,
+) -> AtomRead
+    requires { ⌜ Ready (now program) (now output) (now text) (now names) (now variables) cursor ⌝ }
+    ensures { λ r. ⌜ ReadsAtom (now (program .entry)) (now (output .entry)) (now (text .entry)) (now (names .entry)) (now (variables .entry)) cursor r (now (names .exit)) (now (variables .exit)) ⌝ }
+{
+    let token = token_at(text, cursor.at, cursor.ground);
+    let place = token.place;
+    let behind = Cursor {
+        base: cursor.base,
+        at: token.next,
+        ground: cursor.ground,
+        over: false,
+        met: cursor.met,
+    };
+    if token.kind == NAME {
+        let code = word_code(place, cursor.over);
+        if code != 0 {
+            return stopped(code, place, cursor.met);
+        }
+        let number = name_number(program, output, text, names, cursor.base, place);
+        let name = SignedName {
+            negative: false,
+            number,
+        };
+        return named_atom(program, output, text, names, variables, behind, name);
+    }
+    if token.kind != MINUS {
+        return stopped(WRONG, place, cursor.met);
+    }
+    if cursor.over {
+        return stopped(OVER, place, cursor.met);
+    }
+    minus_atom(program, output, text, names, variables, behind)
+}

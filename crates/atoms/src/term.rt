@@ -1,0 +1,178 @@
+// A term, read as its number: a name's number in the table of names, a number's code, or a variable's number in the rule.
+ghost use mathlib.Core.Path.{_≡_};
+ghost use Rattle.atoms.specs.Cursors.{Ready};
+ghost use Rattle.atoms.specs.Terms.{stoppedTerm, goneTerm, numberTerm, Puttable, ReadsVariable, ReadsAnonymous, ReadsNegative, ReadsTerm};
+use crate::cursor::Cursor;
+use codes::FIRST_NAME;
+use lexis::NOWHERE;
+use lexis::Place;
+use lexis::kind::ANONYMOUS;
+use lexis::kind::MINUS;
+use lexis::kind::NAME;
+use lexis::kind::NUMBER;
+use lexis::kind::VARIABLE;
+use lexis::number::value;
+use lexis::parts::part;
+use lexis::places::put_place;
+use lexis::sizes::MOST_NUMBER;
+use lexis::sizes::MOST_VARIABLES;
+use rows::term::name_number;
+use rows::term::number_code;
+use syntax::token::Progress;
+use syntax::token::TokenRead;
+use syntax::token::token_at;
+use syntax::variable::variable_number;
+use syntax::word::BIG;
+use syntax::word::OVER;
+use syntax::word::WRONG;
+use syntax::word::word_code;
+
+// A term's number, and how many variables have been met behind it.
+pub struct TermRead {
+    pub progress: Progress,
+    pub number: u64,
+    pub met: usize,
+}
+
+fn stopped(code: u8, place: Place, met: usize) -> TermRead
+    ensures { λ r. ⌜ r ≡ stoppedTerm code place met ⌝ }
+{
+    TermRead {
+        progress: Progress {
+            code,
+            place,
+            next: 0,
+        },
+        number: 0,
+        met,
+    }
+}
+
+fn gone(number: u64, next: usize, met: usize) -> TermRead
+    ensures { λ r. ⌜ r ≡ goneTerm number next met ⌝ }
+{
+    TermRead {
+        progress: Progress {
+            code: 0,
+            place: NOWHERE,
+            next,
+        },
+        number,
+        met,
+    }
+}
+
+// The number that `token` is.
+fn number_term(text: &[u8], token: TokenRead, negative: bool, over: bool, met: usize) -> TermRead
+    ensures { λ r. ⌜ r ≡ numberTerm (now (text .entry)) token negative over met ⌝ }
+{
+    let place = token.place;
+    let number = value(part(text, place));
+    if MOST_NUMBER < number {
+        return stopped(BIG, place, met);
+    }
+    if over {
+        return stopped(OVER, place, met);
+    }
+    gone(number_code(negative, number), token.next, met)
+}
+
+// The variable that `token` is: one met before, or the next one where there is room.
+fn variable_term(
+    text: &[u8],
+    variables: &mut [u32],
+    token: TokenRead,
+    over: bool,
+    met: usize,
+) -> TermRead
+    requires { ⌜ Puttable (now variables) token met ⌝ }
+    ensures { λ r. ⌜ ReadsVariable (now (text .entry)) (now (variables .entry)) token over met r (now (variables .exit)) ⌝ }
+{
+    let place = token.place;
+    let code = word_code(place, over);
+    if code != 0 {
+        return stopped(code, place, met);
+    }
+    let number = variable_number(text, place, &*variables, met);
+    if number < met {
+        return gone(number as u64, token.next, met);
+    }
+    if MOST_VARIABLES <= number {
+        return stopped(OVER, place, met);
+    }
+    put_place(variables, met, place);
+    gone(number as u64, token.next, met + 1)
+}
+
+// The `_` that `token` is: a variable of its own, where there is room.
+fn anonymous_term(variables: &mut [u32], token: TokenRead, over: bool, met: usize) -> TermRead
+    requires { ⌜ Puttable (now variables) token met ⌝ }
+    ensures { λ r. ⌜ ReadsAnonymous (now (variables .entry)) token over met r (now (variables .exit)) ⌝ }
+{
+    let place = token.place;
+    if over {
+        return stopped(OVER, place, met);
+    }
+    if MOST_VARIABLES <= met {
+        return stopped(OVER, place, met);
+    }
+    put_place(variables, met, place);
+    gone(met as u64, token.next, met + 1)
+}
+
+// The number behind a minus.
+pub fn negative_number(text: &[u8], at: usize, ground: bool, met: usize) -> TermRead
+    ensures { λ r. ⌜ ReadsNegative ground (now (text .entry)) at met r ⌝ }
+{
+    let token = token_at(text, at, ground);
+    if token.kind == NUMBER {
+        return number_term(text, token, true, false, met);
+    }
+    let place = token.place;
+    stopped(WRONG, place, met)
+}
+
+// The term where the cursor stands.
+pub fn term_at<'a>(
+    program: &'a [u8],
+    output: &'a [u8],
+    text: &'a [u8],
+    names: &mut [u32],
+    variables: &mut [u32],
+    cursor: Cursor,
+) -> TermRead
+    requires { ⌜ Ready (now program) (now output) (now text) (now names) (now variables) cursor ⌝ }
+    ensures { λ r. ⌜ ReadsTerm (now (program .entry)) (now (output .entry)) (now (text .entry)) (now (names .entry)) (now (variables .entry)) cursor r (now (names .exit)) (now (variables .exit)) ⌝ }
+{
+    let over = cursor.over;
+    let met = cursor.met;
+    let token = token_at(text, cursor.at, cursor.ground);
+    let place = token.place;
+    if token.kind == NAME {
+        let code = word_code(place, over);
+        if code != 0 {
+            return stopped(code, place, met);
+        }
+        let number = name_number(program, output, text, names, cursor.base, place);
+        return gone(FIRST_NAME + number as u64, token.next, met);
+    }
+    if token.kind == NUMBER {
+        return number_term(text, token, false, over, met);
+    }
+    if token.kind == MINUS {
+        if over {
+            return stopped(OVER, place, met);
+        }
+        return negative_number(text, token.next, cursor.ground, met);
+    }
+    if cursor.ground {
+        return stopped(WRONG, place, met);
+    }
+    if token.kind == VARIABLE {
+        return variable_term(text, variables, token, over, met);
+    }
+    if token.kind == ANONYMOUS {
+        return anonymous_term(variables, token, over, met);
+    }
+    stopped(WRONG, place, met)
+}

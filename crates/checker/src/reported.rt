@@ -1,0 +1,79 @@
+// Behind a program that is read: the solver's output, its code, and then what it reports.
+ghost use Rattle.checker.specs.Standing.{WithRules, AnswersRules};
+use crate::answer::Answer;
+use crate::answer::Kind;
+use crate::answer::Text;
+use crate::answer::claimed;
+use crate::answer::refused;
+use crate::facts::with_facts;
+use lexis::NOWHERE;
+use lexis::sizes::MOST_FACTS;
+use output::read_output;
+use report::word::Word;
+use report::word::agrees;
+use tables::FACT;
+
+// The refusal where the solver's code and its report disagree.
+const DISAGREE: u8 = 10;
+
+// The numbers of the facts' rows.
+const FACTS: usize = MOST_FACTS * FACT;
+
+fn fact_table() -> [u64; FACTS] {
+    [0; FACTS]
+}
+
+// The answer with the program's rules in their tables.
+pub fn reported<'a>(
+    program: &'a [u8],
+    output: &'a [u8],
+    code: u64,
+    names: &mut [u32],
+    rules: &[u64],
+    literals: &[u64],
+    total: usize,
+    places: &mut [u16],
+) -> Answer
+    requires { ⌜ WithRules (now program) (now output) (now names) (now rules) (now literals) total ⌝ }
+    ensures { λ a. ⌜ AnswersRules (now (program .entry)) (now (output .entry)) code (now (names .entry)) (now (rules .entry)) (now (literals .entry)) total (now (places .entry)) a (now (places .exit)) ⌝ }
+{
+    let mut facts = fact_table();
+    let mut predicates = [0u64; MOST_FACTS];
+    let mut starts = [0u32; MOST_FACTS];
+    let mut lengths = [0u32; MOST_FACTS];
+    let read = read_output(
+        program,
+        output,
+        names,
+        &mut facts,
+        &mut predicates,
+        &mut starts,
+        &mut lengths,
+    );
+    if read.code != 0 {
+        let place = read.place;
+        return refused(read.code, Text::Output, place);
+    }
+    let word = read.word;
+    if !agrees(word, code) {
+        return refused(DISAGREE, Text::Output, NOWHERE);
+    }
+    match word {
+        Word::Answer => with_facts(
+            program,
+            output,
+            &*names,
+            rules,
+            literals,
+            &facts,
+            &predicates,
+            &starts,
+            &lengths,
+            read.count,
+            total,
+            places,
+        ),
+        Word::Inconsistent => claimed(Kind::ClaimedNone),
+        Word::Unknown => claimed(Kind::ClaimedUnknown),
+    }
+}

@@ -1,0 +1,50 @@
+-- `clause::headed` meets its contract. Assumes nothing.
+use Rattle.clauses.proofs.RuleLaws.{headed-fact, headed-wrong, ready-body, headed-body}
+use borrow.Author.Needs.{needs}
+use Rattle.clauses.proofs.clause.headed.Statement.{statement}
+use Rattle.clauses.proofs.clause.headed.Tie as tie
+
+returns : tie.Need-returns
+returns c =
+    let if1 = c .before in
+    let token-at = if1 .before .before in
+    let start = token-at .before .before .before .before .before .before in
+    headed-fact (start .args .program .now) (start .args .output .now) (start .args .names .now) (start .args .variables .now) (start .args .literals .now) (start .args .cursor) (start .args .first) (start .pre) _ (token-at .token-at .ensures) _ (if1 .if1 .taken) (c .gone .ensures)
+
+returns-2 : tie.Need-returns-2
+returns-2 c =
+    let if2 = c .before .before in
+    let if1 = if2 .before .before in
+    let token-at = if1 .before .before in
+    let start = token-at .before .before .before .before .before .before in
+    headed-wrong (start .args .program .now) (start .args .output .now) (start .args .names .now) (start .args .variables .now) (start .args .literals .now) (start .args .cursor) (start .args .first) (start .pre) _ (token-at .token-at .ensures) _ _ _ _ (if1 .if1 .left) (if2 .if2 .taken) (c .stopped .ensures)
+
+body-at-requires : tie.Need-body-at-requires
+body-at-requires c κs =
+    let if2 = c .before .before .before in
+    let token-at = if2 .before .before .before .before in
+    let start = token-at .before .before .before .before .before .before in
+    ready-body (start .args .program .now) (start .args .output .now) (start .args .names .now) (start .args .variables .now) (start .args .literals .now) (start .args .cursor) (start .args .first) (start .pre) _ (token-at .token-at .ensures) (if2 .if2 .left)
+
+returns-3 : tie.Need-returns-3
+returns-3 c =
+    let body-at = c .before .before .before .before .before .before in
+    let if2 = body-at .before .before .before .before in
+    let token-at = if2 .before .before .before .before in
+    let start = token-at .before .before .before .before .before .before in
+    headed-body (start .args .program .now) (start .args .output .now) (start .args .names .now) (start .args .variables .now) (start .args .literals .now) (start .args .cursor) (start .args .first) (start .pre) _ (token-at .token-at .ensures) (if2 .if2 .left) _ _ _ _ (body-at .body-at .ensures)
+
+pub headed-spec : {M : Type 1} → statement M
+headed-spec =
+    tie.close
+    (tie.spec
+    (λ c κs. search needs)
+    (λ c κs. search needs)
+    returns
+    (λ c κs. search needs)
+    returns-2
+    body-at-requires
+    (λ c. search needs)
+    (λ c. search needs)
+    (λ c. search needs)
+    returns-3)

@@ -1,0 +1,5 @@
+-- In the order to read them in.
+pub mod Builtins
+pub mod Literals
+pub mod Bodies
+pub mod Clauses

@@ -1,0 +1,155 @@
+// A rule of a program to its literals' rows: the head's, and behind it the body's.
+ghost use mathlib.Core.Path.{_≡_};
+ghost use Rattle.clauses.specs.Bodies.{ReadyBody};
+ghost use Rattle.clauses.specs.Clauses.{stoppedRule, endedRule, bodiedRule, ReadyRule, FillsHeaded, FillsRule};
+use crate::body::BodyRead;
+use crate::body::body_at;
+use crate::body::gone;
+use crate::body::put_literal;
+use crate::body::stopped as stopped_body;
+use atoms::atom::atom_at;
+use atoms::cursor::Cursor;
+use lexis::NOWHERE;
+use lexis::Place;
+use lexis::kind::DOT;
+use lexis::kind::END;
+use lexis::kind::IF;
+use rows::literal::atom_row;
+use syntax::token::Progress;
+use syntax::token::token_at;
+use syntax::word::OVER;
+use syntax::word::WRONG;
+use tables::HEAD;
+use tables::NO_LITERAL;
+use tables::ROWS;
+
+// A rule: its head's row or that there is none, how many literals its body has, and how many variables it has. Where `ended`, there is none,
+// because the text ends.
+pub struct RuleRead {
+    pub progress: Progress,
+    pub ended: bool,
+    pub head: u64,
+    pub count: usize,
+    pub met: usize,
+}
+
+fn stopped(code: u8, place: Place) -> RuleRead
+    ensures { λ r. ⌜ r ≡ stoppedRule code place ⌝ }
+{
+    RuleRead {
+        progress: Progress {
+            code,
+            place,
+            next: 0,
+        },
+        ended: false,
+        head: 0,
+        count: 0,
+        met: 0,
+    }
+}
+
+fn ended() -> RuleRead
+    ensures { λ r. ⌜ r ≡ endedRule ⌝ }
+{
+    let mut read = stopped(0, NOWHERE);
+    read.ended = true;
+    read
+}
+
+// The rule whose body has been read, or was refused.
+fn bodied(head: u64, body: BodyRead) -> RuleRead
+    ensures { λ r. ⌜ r ≡ bodiedRule head body ⌝ }
+{
+    let progress = body.progress;
+    RuleRead {
+        progress,
+        ended: false,
+        head,
+        count: body.count,
+        met: body.met,
+    }
+}
+
+// What stands behind a head: a dot, or `:-` and a body, whose literals have the rows from `first` on.
+fn headed<'a>(
+    program: &'a [u8],
+    output: &'a [u8],
+    names: &mut [u32],
+    variables: &mut [u32],
+    literals: &mut [u64],
+    cursor: Cursor,
+    first: usize,
+) -> BodyRead
+    requires { ⌜ ReadyBody (now program) (now output) (now names) (now variables) (now literals) cursor first ⌝ }
+    ensures { λ r. ⌜ FillsHeaded (now (program .entry)) (now (output .entry)) (now (names .entry)) (now (variables .entry)) (now (literals .entry)) cursor first r (now (names .exit)) (now (variables .exit)) (now (literals .exit)) ⌝ }
+{
+    let token = token_at(program, cursor.at, false);
+    if token.kind == DOT {
+        return gone(0, token.next, cursor.met);
+    }
+    if token.kind != IF {
+        let place = token.place;
+        return stopped_body(WRONG, place, cursor.met);
+    }
+    let behind = Cursor {
+        base: cursor.base,
+        at: token.next,
+        ground: false,
+        over: false,
+        met: cursor.met,
+    };
+    body_at(program, output, names, variables, literals, behind, first)
+}
+
+// The rule with a number where the cursor stands, with its dot.
+pub fn rule_at<'a>(
+    program: &'a [u8],
+    output: &'a [u8],
+    names: &mut [u32],
+    variables: &mut [u32],
+    literals: &mut [u64],
+    cursor: Cursor,
+    number: usize,
+) -> RuleRead
+    requires { ⌜ ReadyRule (now program) (now output) (now names) (now variables) (now literals) cursor number ⌝ }
+    ensures { λ r. ⌜ FillsRule (now (program .entry)) (now (output .entry)) (now (names .entry)) (now (variables .entry)) (now (literals .entry)) cursor number r (now (names .exit)) (now (variables .exit)) (now (literals .exit)) ⌝ }
+{
+    let token = token_at(program, cursor.at, false);
+    if token.kind == END {
+        return ended();
+    }
+    let place = token.place;
+    let row = number * ROWS;
+    if token.kind == IF {
+        if cursor.over {
+            return stopped(OVER, place);
+        }
+        let behind = Cursor {
+            base: cursor.base,
+            at: token.next,
+            ground: false,
+            over: false,
+            met: 0,
+        };
+        let body = body_at(program, output, names, variables, literals, behind, row + 1);
+        return bodied(NO_LITERAL, body);
+    }
+    let read = atom_at(program, output, program, names, variables, cursor);
+    let progress = read.progress;
+    if progress.code != 0 {
+        let fault = progress.place;
+        return stopped(progress.code, fault);
+    }
+    let codes = read.codes;
+    put_literal(literals, row, atom_row(HEAD, codes));
+    let behind = Cursor {
+        base: cursor.base,
+        at: progress.next,
+        ground: false,
+        over: false,
+        met: read.met,
+    };
+    let body = headed(program, output, names, variables, literals, behind, row + 1);
+    bodied(row as u64, body)
+}

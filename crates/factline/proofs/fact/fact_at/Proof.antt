@@ -1,0 +1,82 @@
+-- `fact::fact_at` meets its contract. Assumes nothing.
+use Rattle.factline.proofs.FactLaws.{fact-ended, fact-if, fact-stops, fact-wrong, fact-goes}
+use borrow.Author.Needs.{needs}
+use Rattle.factline.proofs.fact.fact_at.Statement.{statement}
+use Rattle.factline.proofs.fact.fact_at.Tie as tie
+
+returns : tie.Need-returns
+returns c =
+    let if1 = c .before in
+    let token-at = if1 .before .before .before in
+    let start = token-at .before .before .before .before .before .before in
+    fact-ended (start .args .program .now) (start .args .output .now) (start .args .text .now) (start .args .names .now) (start .args .variables .now) (start .args .base) (start .args .at) (start .args .over) _ (token-at .token-at .ensures) _ (if1 .if1 .taken) (c .without .ensures)
+
+returns-2 : tie.Need-returns-2
+returns-2 c =
+    let if2 = c .before in
+    let token-at = if2 .before .before .before .before .before in
+    let start = token-at .before .before .before .before .before .before in
+    fact-if (start .args .program .now) (start .args .output .now) (start .args .text .now) (start .args .names .now) (start .args .variables .now) (start .args .base) (start .args .at) (start .args .over) _ (token-at .token-at .ensures) _ _ (if2 .if2 .taken) (c .without2 .ensures)
+
+atom-at-requires : tie.Need-atom-at-requires
+atom-at-requires c κs =
+    let start = c .before .before .before .before .before .before .before .before .before .before .before .before .before in
+    let p = start .pre in record { source = p .source; short = p .short; inside = p .inside; room = p .room; few = p .few; long = p .long }
+
+returns-3 : tie.Need-returns-3
+returns-3 c =
+    let if3 = c .before .before in
+    let atom-at = if3 .before .before .before .before .before .before .before in
+    let if2 = atom-at .before .before .before in
+    let if1 = if2 .before .before in
+    let token-at = if1 .before .before .before in
+    let start = token-at .before .before .before .before .before .before in
+    fact-stops (start .args .program .now) (start .args .output .now) (start .args .text .now) (start .args .names .now) (start .args .variables .now) (start .args .base) (start .args .at) (start .args .over) _ (token-at .token-at .ensures) _ (if2 .if2 .left) (if1 .if1 .left) (atom-at .atom-at .result) _ _ (atom-at .atom-at .ensures) (if3 .if3 .taken) (c .without3 .ensures)
+
+returns-4 : tie.Need-returns-4
+returns-4 c =
+    let if4 = c .before .before in
+    let token-at2 = if4 .before .before in
+    let if3 = token-at2 .before .before in
+    let atom-at = if3 .before .before .before .before .before .before .before in
+    let if2 = atom-at .before .before .before in
+    let if1 = if2 .before .before in
+    let token-at = if1 .before .before .before in
+    let start = token-at .before .before .before .before .before .before in
+    fact-wrong (start .args .program .now) (start .args .output .now) (start .args .text .now) (start .args .names .now) (start .args .variables .now) (start .args .base) (start .args .at) (start .args .over) _ (token-at .token-at .ensures) _ (if2 .if2 .left) (if1 .if1 .left) (atom-at .atom-at .result) _ _ (atom-at .atom-at .ensures) (if3 .if3 .left) _ (token-at2 .token-at2 .ensures) (if4 .if4 .taken) (c .without4 .ensures)
+
+returns-5 : tie.Need-returns-5
+returns-5 c =
+    let if4 = c .before in
+    let token-at2 = if4 .before .before in
+    let if3 = token-at2 .before .before in
+    let atom-at = if3 .before .before .before .before .before .before .before in
+    let if2 = atom-at .before .before .before in
+    let if1 = if2 .before .before in
+    let token-at = if1 .before .before .before in
+    let start = token-at .before .before .before .before .before .before in
+    fact-goes (start .args .program .now) (start .args .output .now) (start .args .text .now) (start .args .names .now) (start .args .variables .now) (start .args .base) (start .args .at) (start .args .over) _ (token-at .token-at .ensures) _ (if2 .if2 .left) (if1 .if1 .left) (atom-at .atom-at .result) _ _ (atom-at .atom-at .ensures) (if3 .if3 .left) _ (token-at2 .token-at2 .ensures) (if4 .if4 .left) (c .gone .ensures)
+
+pub fact-at-spec : {M : Type 1} → statement M
+fact-at-spec =
+    tie.close
+    (tie.spec
+    (λ c κs. search needs)
+    (λ c κs. search needs)
+    returns
+    (λ c κs. search needs)
+    returns-2
+    atom-at-requires
+    (λ c κs. search needs)
+    (λ c. search needs)
+    (λ c. search needs)
+    returns-3
+    (λ c κs. search needs)
+    (λ c κs. search needs)
+    (λ c. search needs)
+    (λ c. search needs)
+    returns-4
+    (λ c κs. search needs)
+    (λ c. search needs)
+    (λ c. search needs)
+    returns-5)

@@ -1,0 +1,85 @@
+-- A facts line as rows: what the functions that read it promise.
+use mathlib.Core.Path.{_≡_}
+use mathlib.Core.Bool.{true}
+use mathlib.Core.List.{List, _∷_}
+use Prim.Native.Nat.{ℕ, _+_, _*_, _-_, _≤_, _<_}
+use lib.ListN.{length, take, getD, set}
+use Rattle.lexis.specs.declared.Place.{Place}
+use Rattle.lexis.specs.Places.{nowhere, number-limit}
+use Rattle.lexis.specs.Tokens.{part}
+use Rattle.reading.specs.Reading.{tree, refused}
+use Rattle.meaning.specs.Rules.{Bytes}
+use Rattle.grammar.specs.Trees.{count, Program}
+use Rattle.grammar.specs.Abstraction.{facts-for}
+use Rattle.syntax.specs.Programs.{ReadAs}
+use Rattle.sentences.specs.Sentences.{sentence}
+use Rattle.codes.specs.Codes.{Coded}
+use Rattle.codes.specs.Predicates.{CodedName}
+use Rattle.codes.specs.Related.{Pairwise, RelatedAtom}
+use Rattle.tables.specs.Layout.{fact-stride}
+use Rattle.tables.specs.Rows.{from, fact-predicate, facts-of}
+use Rattle.tables.specs.WellFormed.{FactTable}
+use Rattle.tables.specs.Stored.{with-row, Kept}
+use Rattle.names.specs.Table.{names-of}
+use Rattle.rows.specs.Growth.{Room, Grows}
+use Rattle.factline.specs.declared.fact.FactRead.{FactRead}
+use Rattle.factline.specs.declared.line.FactsRead.{FactsRead}
+
+-- the most facts of a line
+abbrev pub most-facts : ℕ
+most-facts = 1_024
+
+-- ---- one fact into the tables
+
+-- what is asked: room in the tables, and a place whose numbers fit them
+pub record Puttable (facts predicates starts lengths : List ℕ) (number base : ℕ) (fact : FactRead) : Type 0 where
+  pub long : number * fact-stride + fact-stride ≤ length facts
+  pub predicates-long : number < length predicates
+  pub starts-long : number < length starts
+  pub lengths-long : number < length lengths
+  pub number-small : number < most-facts
+  pub forward : fact .start ≤ fact .progress .next
+  pub small : base + fact .progress .next < number-limit
+
+pub record Put (facts predicates starts lengths : List ℕ) (number base : ℕ) (fact : FactRead) (facts′ predicates′ starts′ lengths′ : List ℕ) : Type 0 where
+  pub row : List ℕ
+  pub is-row : row ≡ fact .codes .predicate ∷ fact .codes .terms
+  pub nine : length row ≡ fact-stride
+  pub facts-so : facts′ ≡ with-row facts (number * fact-stride) row
+  pub predicates-so : predicates′ ≡ set predicates number (fact .codes .predicate)
+  pub starts-so : starts′ ≡ set starts number (base + fact .start)
+  pub lengths-so : lengths′ ≡ set lengths number (fact .progress .next - fact .start)
+
+-- ---- the line
+
+-- what is asked: a line of the output, room in the table of names for as many as the line has bytes, and room in the other tables
+pub record Fillable (program output : Bytes) (line : Place) (names facts predicates starts lengths : List ℕ) : Type 0 where
+  pub inside : line .start + line .len ≤ length output
+  pub room : Room program output names (line .len)
+  pub facts-long : most-facts * fact-stride ≤ length facts
+  pub predicates-long : most-facts ≤ length predicates
+  pub starts-long : most-facts ≤ length starts
+  pub lengths-long : most-facts ≤ length lengths
+
+-- the first n places hold f, and every later one is as it was
+pub record Holds (f : ℕ → ℕ) (n : ℕ) (before left : List ℕ) : Type 0 where
+  pub same-size : length left ≡ length before
+  pub first : (k : ℕ) → k < n → getD left k 0 ≡ f k
+  pub later : (k : ℕ) → n ≤ k → getD left k 0 ≡ getD before k 0
+
+-- the rows stand for the line's facts, in text order; their predicates and their places in the output are tables of their own
+pub record Filled (program output : Bytes) (line : Place) (fs : Program true) (names facts predicates starts lengths : List ℕ) (n : ℕ) (names′ facts′ predicates′ starts′ lengths′ : List ℕ) : Type 0 where
+  pub size : n ≡ count fs
+  pub grows : Grows program output names (line .len) names′
+  pub table : FactTable facts′ n
+  pub stands : Pairwise (RelatedAtom (CodedName (names-of program output names′)) (Coded (names-of program output names′))) (facts-of facts′ n) (facts-for fs)
+  pub are-predicates : take n predicates′ ≡ from (fact-predicate facts′) n 0
+  pub facts-kept : Kept 0 (n * fact-stride) facts facts′
+  pub predicates-kept : Kept 0 n predicates predicates′
+  pub starts-hold : Holds (λ k. line .start + sentence true (part output line) k .start) n starts starts′
+  pub lengths-hold : Holds (λ k. sentence true (part output line) k .len) n lengths lengths′
+
+-- some facts, which are so many, and stand in the tables; or a refusal at its place on the line
+pub data FillsLine (program output : Bytes) (line : Place) (names facts predicates starts lengths : List ℕ) (r : FactsRead) (names′ facts′ predicates′ starts′ lengths′ : List ℕ) : Type 0 where
+  whole : r .code ≡ 0 → r .place ≡ nowhere → (fs : Program true) → ReadAs true (part output line) (tree fs) → Filled program output line fs names facts predicates starts lengths (r .count) names′ facts′ predicates′ starts′ lengths′ → FillsLine program output line names facts predicates starts lengths r names′ facts′ predicates′ starts′ lengths′
+  refuses : 2 ≤ r .code → r .count ≡ 0 → ReadAs true (part output line) (refused (r .code) (r .place)) → FillsLine program output line names facts predicates starts lengths r names′ facts′ predicates′ starts′ lengths′

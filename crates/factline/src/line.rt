@@ -1,0 +1,107 @@
+// The facts of a facts line, one after the other, to their rows.
+ghost use mathlib.Core.Path.{_≡_};
+ghost use mathlib.Core.List.{_∷_};
+ghost use Rattle.factline.specs.Lines.{Fillable, FillsLine, Puttable, Put};
+use crate::fact::FactRead;
+use crate::fact::fact_at;
+use lexis::NOWHERE;
+use lexis::Place;
+use lexis::parts::part;
+use lexis::sizes::MOST_FACTS;
+use rows::literal::AtomCodes;
+use tables::FACT;
+use tables::row::put_row;
+
+// The numbers of the places of a rule's variables, two each.
+const VARIABLES: usize = 32;
+
+// How many facts there are; or the refusal and its place on the line.
+pub struct FactsRead {
+    pub code: u8,
+    pub place: Place,
+    pub count: usize,
+}
+
+// The predicate's number, and those of the arguments behind it.
+fn fact_row(codes: AtomCodes) -> [u64; FACT]
+    ensures { λ r. ⌜ r ≡ codes .predicate ∷ codes .terms ⌝ }
+{
+    let terms = codes.terms;
+    [
+        codes.predicate,
+        terms[0],
+        terms[1],
+        terms[2],
+        terms[3],
+        terms[4],
+        terms[5],
+        terms[6],
+        terms[7],
+    ]
+}
+
+// The fact with a number, on a line that starts at `base` of the output: its row, its predicate, and where it stands.
+fn put_fact(
+    facts: &mut [u64],
+    predicates: &mut [u64],
+    starts: &mut [u32],
+    lengths: &mut [u32],
+    number: usize,
+    base: usize,
+    fact: FactRead,
+)
+    requires { ⌜ Puttable (now facts) (now predicates) (now starts) (now lengths) number base fact ⌝ }
+    ensures { λ _. ⌜ Put (now (facts .entry)) (now (predicates .entry)) (now (starts .entry)) (now (lengths .entry)) number base fact (now (facts .exit)) (now (predicates .exit)) (now (starts .exit)) (now (lengths .exit)) ⌝ }
+{
+    let codes = fact.codes;
+    let progress = fact.progress;
+    let row = fact_row(codes);
+    put_row(facts, number * FACT, &row);
+    predicates[number] = codes.predicate;
+    starts[number] = (base + fact.start) as u32;
+    lengths[number] = (progress.next - fact.start) as u32;
+}
+
+// All facts of a line of the output: how many they are, with their rows, their predicates and their places in the tables; or the refusal.
+pub fn read_line<'a>(
+    program: &'a [u8],
+    output: &'a [u8],
+    line: Place,
+    names: &mut [u32],
+    facts: &mut [u64],
+    predicates: &mut [u64],
+    starts: &mut [u32],
+    lengths: &mut [u32],
+) -> FactsRead
+    requires { ⌜ Fillable (now program) (now output) line (now names) (now facts) (now predicates) (now starts) (now lengths) ⌝ }
+    ensures { λ r. ⌜ FillsLine (now (program .entry)) (now (output .entry)) line (now (names .entry)) (now (facts .entry)) (now (predicates .entry)) (now (starts .entry)) (now (lengths .entry)) r (now (names .exit)) (now (facts .exit)) (now (predicates .exit)) (now (starts .exit)) (now (lengths .exit)) ⌝ }
+{
+    let text = part(output, line);
+    let base = program.len() + line.start;
+    let mut variables = [0u32; VARIABLES];
+    let mut at = 0;
+    let mut count = 0;
+    loop {
+        let over = MOST_FACTS <= count;
+        let read = fact_at(program, output, text, names, &mut variables, base, at, over);
+        let progress = read.progress;
+        let place = progress.place;
+        if progress.code != 0 {
+            return FactsRead {
+                code: progress.code,
+                place,
+                count: 0,
+            };
+        }
+        if read.ended {
+            return FactsRead {
+                code: 0,
+                place: NOWHERE,
+                count,
+            };
+        }
+        put_fact(facts, predicates, starts, lengths, count, line.start, read);
+        at = progress.next;
+        count += 1;
+    }
+}

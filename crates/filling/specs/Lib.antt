@@ -1,2 +1,0 @@
--- In the order to read them in.
-pub mod Rules

@@ -1,0 +1,25 @@
+-- The place that is nowhere, and places kept in a table, two numbers each: where a place starts, and how many bytes it has.
+use mathlib.Core.List.{List, [], _∷_, _++_}
+use Prim.Native.Nat.{ℕ, zero, suc, _+_, _*_}
+use lib.ListN.{getD, set}
+use Rattle.lexis.specs.declared.Place.{Place}
+
+-- empty, at a text's start
+abbrev pub nowhere : Place
+nowhere = record { start = 0; len = 0 }
+
+-- every number of a table is below this
+abbrev pub number-limit : ℕ
+number-limit = 4_294_967_296
+
+abbrev pub place-in : List ℕ → ℕ → Place
+place-in table i = record { start = getD table (i * 2) 0; len = getD table (i * 2 + 1) 0 }
+
+-- the first n places of a table
+unfoldable pub places-in : List ℕ → ℕ → List Place
+places-in table zero = []
+places-in table (suc n) = places-in table n ++ (place-in table n ∷ [])
+
+-- the table with another place at a number
+abbrev pub with-place : List ℕ → ℕ → Place → List ℕ
+with-place table i p = set (set table (i * 2) (p .start)) (i * 2 + 1) (p .len)

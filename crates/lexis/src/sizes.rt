@@ -1,0 +1,25 @@
+// The sizes of the language: what is over one of them is refused.
+
+// Bytes of a program's text and of a solver's output.
+pub const MOST_TEXT: usize = 65_536;
+
+// Rules of a program.
+pub const MOST_RULES: usize = 256;
+
+// Literals in a body.
+pub const MOST_LITERALS: usize = 16;
+
+// Arguments of an atom.
+pub const MOST_ARGUMENTS: usize = 8;
+
+// Bytes of a name or a variable.
+pub const MOST_NAME: usize = 64;
+
+// Variables of a rule, each `_` counting.
+pub const MOST_VARIABLES: usize = 16;
+
+// Facts of a candidate.
+pub const MOST_FACTS: usize = 1_024;
+
+// The greatest number; the least is as far below zero.
+pub const MOST_NUMBER: u64 = 1_000_000_000;

@@ -1,0 +1,121 @@
+-- What the function that puts a rule into the tables returns, by the tests that led there.
+use mathlib.Core.Path.{_≡_, refl, sym, _∙_}
+use mathlib.Core.Bool.{true, false, true≢false, false≢true}
+use mathlib.Core.Option.{Option}
+use mathlib.Core.List.{List}
+use Prim.Native.Nat.{ℕ, _+_, _*_, _≤_}
+use native.Mathlib.Omega.{arith}
+use lib.ListN.{length}
+use Rattle.lexis.specs.Places.{places-in}
+use Rattle.lexis.proofs.PlaceTables.{places-length}
+use Rattle.meaning.specs.Rules.{Bytes, Term, Atom}
+use Rattle.meaning.specs.Values.{Value}
+use Rattle.grammar.specs.Trees.{Rule as Tree}
+use Rattle.grammar.specs.Abstraction.{rule-for}
+use Rattle.names.specs.Table.{names-of}
+use Rattle.tables.specs.Layout.{rule-rows, most-literals}
+use Rattle.tables.specs.Coded.{HeadCoded}
+use Rattle.clauses.specs.declared.clause.RuleRead.{RuleRead}
+use Rattle.clauses.specs.Clauses.{RuleStands, FillsRule}
+use Rattle.rulesafety.specs.declared.bound.Bound.{Bound}
+use Rattle.rulesafety.specs.declared.unbound.Unbound.{Unbound}
+use Rattle.rulesafety.specs.Bound.{bitsOf}
+use Rattle.rulesafety.specs.RuleRow.{Storable, RowStored}
+use Rattle.rulesafety.specs.Unbound.{Numbered, FirstUnbound}
+use Rattle.rulesafety.proofs.RuleRows.{RuleStored, rule-stands, rule-row, bound-is}
+use Rattle.rulesafety.proofs.FirstUnbound.{unbound-same}
+use Rattle.program.specs.declared.put.RuleStart.{RuleStart}
+use Rattle.program.specs.declared.put.RulePut.{RulePut}
+use Rattle.program.specs.Puts.{cursor-at, Puttable, Owns, PutsRule, refusedPut}
+
+-- the rows that a stored row names are the rule's own
+own-rows : {names : List Bytes} {m : Option (Atom (Term Value))} {rules rules′ literals : List ℕ} {number head count : ℕ} {b : Bound} → HeadCoded names literals (number * rule-rows) head m → count ≤ most-literals → RowStored rules literals number head (number * rule-rows + 1) count b rules′ → Owns rules′ number
+own-rows coded few stored =
+    record {
+      head = λ h. stored .head-row ∙ coded .where-it-is (λ z. h (stored .head-row ∙ z));
+      first = stored .first-row;
+      short = let e = stored .size in omega arith;
+      few-equations = stored .few-equations;
+      equations = λ l h. (let k = stored .binds l h in let p = k .from-first in let q = k .before-end in (omega arith, omega arith));
+      few-positives = stored .few-positives;
+      positives = λ l h. (let k = stored .in-body l h in let p = k .0 in let q = k .1 in (omega arith, omega arith));
+    }
+
+module _ (program output : Bytes) (names variables rules literals : List ℕ) (s : RuleStart) (asked : Puttable program output names variables rules literals s) (w : RuleRead) (names′ variables′ literals′ : List ℕ) (g : FillsRule program output names variables literals (cursor-at s) (s .number) w names′ variables′ literals′) where
+  abbrev Puts : RulePut → List ℕ → Type 0
+  Puts r rules′ = PutsRule program output names rules literals s r names′ rules′ literals′
+
+  pub put-stops : {rules′ : List ℕ} (r : RulePut) → (w .progress .code ≡ 0 → ⊥) → r ≡ refusedPut (w .progress) false → Puts r rules′
+  put-stops {rules′} r ne er = rw er (go g)
+    where
+      go : FillsRule program output names variables literals (cursor-at s) (s .number) w names′ variables′ literals′ → Puts (refusedPut (w .progress) false) rules′
+      go (FillsRule.read c e o x h q) = absurd (ne c)
+      go (FillsRule.ended c e n l q) = absurd (ne c)
+      go (FillsRule.stopped c q) = PutsRule.stopped c q
+
+  module _ (z : w .progress .code ≡ 0) where
+    pub put-ends : (r : RulePut) → w .ended ≡ true → r ≡ refusedPut (w .progress) true → Puts r rules
+    put-ends r t er = rw er (go g)
+      where
+        go : FillsRule program output names variables literals (cursor-at s) (s .number) w names′ variables′ literals′ → Puts (refusedPut (w .progress) true) rules
+        go (FillsRule.read c e o x h q) = absurd (false≢true (sym e ∙ t))
+        go (FillsRule.ended c e n l q) = PutsRule.ended c refl n refl l q
+        go (FillsRule.stopped c q) = absurd (omega arith)
+
+    module _ (t : w .ended ≡ false) where
+      pub row-storable : Storable rules literals′ (s .number) (s .number * rule-rows + 1) (w .count)
+      row-storable = go g
+        where
+          go : FillsRule program output names variables literals (cursor-at s) (s .number) w names′ variables′ literals′ → Storable rules literals′ (s .number) (s .number * rule-rows + 1) (w .count)
+          go (FillsRule.read c e o x h q) =
+              let long = asked .ready .long o in
+              let same = h .kept .long in
+              let few = h .few in
+              record { body = omega arith; few = few; long = asked .rules-long o }
+          go (FillsRule.ended c e n l q) = absurd (true≢false (sym e ∙ t))
+          go (FillsRule.stopped c q) = absurd (omega arith)
+
+      pub few-numbered : length variables′ ≡ length variables → Numbered variables′ (w .met)
+      few-numbered same = go g
+        where
+          go : FillsRule program output names variables literals (cursor-at s) (s .number) w names′ variables′ literals′ → Numbered variables′ (w .met)
+          go (FillsRule.read c e o x h q) =
+              let long = asked .ready .ready .ready .long in
+              let size = places-length variables′ (w .met) in
+              let few = h .fits in
+              record { few = omega arith; long = omega arith }
+          go (FillsRule.ended c e n l q) = absurd (true≢false (sym e ∙ t))
+          go (FillsRule.stopped c q) = absurd (omega arith)
+
+      module _ (b : Bound) (rules′ : List ℕ) (stored : RowStored rules literals′ (s .number) (w .head) (s .number * rule-rows + 1) (w .count) b rules′) (u : Unbound) (unbound : FirstUnbound (bitsOf b) (places-in variables′ (w .met)) u) where
+        abbrev answer : RulePut
+        answer = record { progress = w .progress; ended = false; unbound = u }
+
+        its-rows : (x : Tree false) → s .over ≡ false → RuleStands program output names variables literals (cursor-at s) (s .number) x w names′ variables′ literals′ → RuleStored (names-of program output names′) (rule-for x) rules literals′ (s .number) (s .number * rule-rows) (w .head) (s .number * rule-rows + 1) (w .count) b rules′
+        its-rows x o h =
+            let long = asked .ready .long o in
+            let same = h .kept .long in
+            record { asked = row-storable; head-coded = h .stands .coded .0; head-inside = omega arith; body-coded = h .stands .coded .1; size = h .size; stored = stored }
+
+        pub put-goes : PutsRule program output names rules literals s answer names′ rules′ literals′
+        put-goes = go g
+          where
+            go : FillsRule program output names variables literals (cursor-at s) (s .number) w names′ variables′ literals′ → Puts answer rules′
+            go (FillsRule.ended c e n l q) = absurd (true≢false (sym e ∙ t))
+            go (FillsRule.stopped c q) = absurd (omega arith)
+            go (FillsRule.read c e o x h q) =
+                let rows = its-rows x o h in
+                PutsRule.read c refl o x
+                (record {
+                  forward = h .forward;
+                  inside = h .inside;
+                  grows = h .stands .grows;
+                  rules-kept = stored .kept;
+                  literals-kept = h .kept;
+                  stands = rule-stands rows;
+                  owns = own-rows (h .stands .coded .0) (h .few) stored;
+                  row = rule-row rows;
+                  unbound = rw (h .firsts) (unbound-same (bound-is rows) unbound);
+                  rest = h .rest;
+                })
+                q

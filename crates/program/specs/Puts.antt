@@ -1,0 +1,73 @@
+-- A rule of a program in the tables: what the function that puts it there promises.
+use mathlib.Core.Path.{_≡_}
+use mathlib.Core.Bool.{Bool, true, false}
+use mathlib.Core.Option.{some}
+use mathlib.Core.List.{List, []}
+use Prim.Native.Nat.{ℕ, _+_, _-_, _*_, _≤_, _<_}
+use lib.ListN.{length}
+use Rattle.lexis.specs.Places.{nowhere}
+use Rattle.reading.specs.Reading.{tree, refused}
+use Rattle.meaning.specs.Sets.{In}
+use Rattle.meaning.specs.Rules.{Bytes}
+use Rattle.meaning.specs.Safety.{bound, safe}
+use Rattle.grammar.specs.Trees.{_then_, Rule as Tree, Program}
+use Rattle.grammar.specs.Abstraction.{rule-for}
+use Rattle.syntax.specs.declared.token.Progress.{Progress}
+use Rattle.syntax.specs.Text.{placed-from}
+use Rattle.syntax.specs.Ahead.{firsts, behind-dot}
+use Rattle.syntax.specs.Rules.{behind-rules, RulePlace}
+use Rattle.codes.specs.Codes.{Coded}
+use Rattle.codes.specs.Predicates.{CodedName}
+use Rattle.codes.specs.Related.{RelatedRule}
+use Rattle.names.specs.Table.{names-of}
+use Rattle.tables.specs.Layout.{literal-stride, rule-stride, rule-rows, most-literals, head-literal-column, first-literal-column, literals-column, equations-column, positives-column}
+use Rattle.tables.specs.Rows.{no-literal, rule-column, equation-places, positive-places, rule-at}
+use Rattle.tables.specs.WellFormed.{RuleRow}
+use Rattle.tables.specs.Stored.{Kept}
+use Rattle.rows.specs.Growth.{Grows}
+use Rattle.atoms.specs.declared.cursor.Cursor.{Cursor}
+use Rattle.clauses.specs.Clauses.{ReadyRule}
+use Rattle.rulesafety.specs.Unbound.{FirstUnbound}
+use Rattle.program.specs.declared.put.RuleStart.{RuleStart}
+use Rattle.program.specs.declared.put.RulePut.{RulePut}
+
+-- the program is the first of the two texts, and no variable of the rule has been met
+abbrev pub cursor-at : RuleStart → Cursor
+cursor-at s = record { base = 0; at = s .at; ground = false; over = s .over; met = 0 }
+
+-- what is asked: room for one that is not too many
+pub record Puttable (program output : Bytes) (names variables rules literals : List ℕ) (s : RuleStart) : Type 0 where
+  pub ready : ReadyRule program output names variables literals (cursor-at s) (s .number)
+  pub rules-long : s .over ≡ false → s .number * rule-stride + rule-stride ≤ length rules
+
+-- the rows that a rule's own row names are those of its number
+pub record Owns (rules : List ℕ) (number : ℕ) : Type 0 where
+  pub head : (rule-column rules number head-literal-column ≡ no-literal → ⊥) → rule-column rules number head-literal-column ≡ number * rule-rows
+  pub first : rule-column rules number first-literal-column ≡ number * rule-rows + 1
+  pub short : rule-column rules number literals-column ≤ most-literals
+  pub few-equations : rule-column rules number equations-column ≤ most-literals
+  pub equations : (l : ℕ) → In l (equation-places rules number) → (number * rule-rows ≤ l) × (l < number * rule-rows + rule-rows)
+  pub few-positives : rule-column rules number positives-column ≤ most-literals
+  pub positives : (l : ℕ) → In l (positive-places rules number) → (number * rule-rows ≤ l) × (l < number * rule-rows + rule-rows)
+
+-- the rows stand for the rule x, and are as the engine asks where it is safe; its first variable that is not bound; where it ends
+pub record Stands (program output : Bytes) (names rules literals : List ℕ) (s : RuleStart) (x : Tree false) (r : RulePut) (names′ rules′ literals′ : List ℕ) : Type 0 where
+  pub forward : s .at ≤ r .progress .next
+  pub inside : r .progress .next ≤ length program
+  pub grows : Grows program output names (r .progress .next - s .at) names′
+  pub rules-kept : Kept (s .number * rule-stride) (s .number * rule-stride + rule-stride) rules rules′
+  pub literals-kept : Kept (s .number * rule-rows * literal-stride) ((s .number * rule-rows + rule-rows) * literal-stride) literals literals′
+  pub stands : RelatedRule (CodedName (names-of program output names′)) (Coded (names-of program output names′)) (rule-at rules′ literals′ (s .number)) (rule-for x)
+  pub owns : Owns rules′ (s .number)
+  pub row : safe (rule-for x) ≡ true → RuleRow rules′ literals′ (s .number)
+  pub unbound : FirstUnbound (bound (rule-for x)) (firsts [] (placed-from false program (s .at))) (r .unbound)
+  pub rest : behind-dot (placed-from false program (s .at)) ≡ some (placed-from false program (r .progress .next))
+
+-- a rule, the end of the text, or a refusal
+pub data PutsRule (program output : Bytes) (names rules literals : List ℕ) (s : RuleStart) (r : RulePut) (names′ rules′ literals′ : List ℕ) : Type 0 where
+  read : r .progress .code ≡ 0 → r .ended ≡ false → s .over ≡ false → (x : Tree false) → Stands program output names rules literals s x r names′ rules′ literals′ → ((h : RulePlace false (s .over)) → behind-rules false program (h .rules) (s .at) ≡ behind-rules false program (h .rules then x) (r .progress .next)) → PutsRule program output names rules literals s r names′ rules′ literals′
+  ended : r .progress .code ≡ 0 → r .ended ≡ true → names′ ≡ names → rules′ ≡ rules → literals′ ≡ literals → ((p : Program false) → behind-rules false program p (s .at) ≡ tree p) → PutsRule program output names rules literals s r names′ rules′ literals′
+  stopped : 2 ≤ r .progress .code → ((h : RulePlace false (s .over)) → behind-rules false program (h .rules) (s .at) ≡ refused (r .progress .code) (r .progress .place)) → PutsRule program output names rules literals s r names′ rules′ literals′
+
+abbrev pub refusedPut : Progress → Bool → RulePut
+refusedPut p e = record { progress = p; ended = e; unbound = record { found = false; place = nowhere } }

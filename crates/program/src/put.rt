@@ -1,0 +1,78 @@
+// A rule of a program, read into the tables: its literals' rows and its own, and the first of its variables that is not bound.
+ghost use mathlib.Core.Path.{_≡_};
+ghost use Rattle.program.specs.Puts.{Puttable, PutsRule, refusedPut};
+use atoms::cursor::Cursor;
+use clauses::clause::rule_at;
+use lexis::NOWHERE;
+use rulesafety::rule_row::put_rule_row;
+use rulesafety::unbound::Unbound;
+use rulesafety::unbound::first_unbound;
+use syntax::token::Progress;
+use tables::ROWS;
+
+// Where a rule starts in the program, its number, and whether it is one too many.
+pub struct RuleStart {
+    pub at: usize,
+    pub number: usize,
+    pub over: bool,
+}
+
+// How far reading has come. Where `ended`, there is no rule, because the text ends.
+pub struct RulePut {
+    pub progress: Progress,
+    pub ended: bool,
+    pub unbound: Unbound,
+}
+
+// There is no rule, or it was refused.
+fn none_put(progress: Progress, ended: bool) -> RulePut
+    ensures { λ r. ⌜ r ≡ refusedPut progress ended ⌝ }
+{
+    RulePut {
+        progress,
+        ended,
+        unbound: Unbound {
+            found: false,
+            place: NOWHERE,
+        },
+    }
+}
+
+// The rule that starts there, in the rows of its number. `variables` is a table for its variables.
+pub fn put_rule<'a>(
+    program: &'a [u8],
+    output: &'a [u8],
+    names: &mut [u32],
+    variables: &mut [u32],
+    rules: &mut [u64],
+    literals: &mut [u64],
+    start: RuleStart,
+) -> RulePut
+    requires { ⌜ Puttable (now program) (now output) (now names) (now variables) (now rules) (now literals) start ⌝ }
+    ensures { λ r. ⌜ PutsRule (now (program .entry)) (now (output .entry)) (now (names .entry)) (now (rules .entry)) (now (literals .entry)) start r (now (names .exit)) (now (rules .exit)) (now (literals .exit)) ⌝ }
+{
+    let number = start.number;
+    let cursor = Cursor {
+        base: 0,
+        at: start.at,
+        ground: false,
+        over: start.over,
+        met: 0,
+    };
+    let read = rule_at(program, output, names, variables, literals, cursor, number);
+    let progress = read.progress;
+    if progress.code != 0 {
+        return none_put(progress, false);
+    }
+    if read.ended {
+        return none_put(progress, true);
+    }
+    let first = number * ROWS + 1;
+    let bound = put_rule_row(rules, literals, number, read.head, first, read.count);
+    let unbound = first_unbound(bound, variables, read.met);
+    RulePut {
+        progress,
+        ended: false,
+        unbound,
+    }
+}

@@ -1,4 +1,0 @@
--- In the order to read them in.
-pub mod Plain
-pub mod Stands
-pub mod Build

@@ -1,0 +1,10 @@
+pub mod Adding
+pub mod Gaining
+pub mod Going
+pub mod Listing
+pub mod Operations
+pub mod Numbers
+pub mod Storing
+pub mod RuleRows
+pub mod FirstUnbound
+pub mod Safe

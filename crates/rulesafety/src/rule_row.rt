@@ -1,0 +1,92 @@
+// A rule's own row, over the rows of its literals.
+ghost use mathlib.Core.Path.{_≡_};
+ghost use mathlib.Core.Bool.{cond};
+ghost use Prim.Native.Nat.{_+_, _*_, _≤_};
+ghost use lib.ListN.{length};
+ghost use Rattle.tables.specs.Layout.{rule-stride};
+ghost use Rattle.rulesafety.specs.Bound.{BodyInside};
+ghost use Rattle.rulesafety.specs.RuleRow.{some-operation, NumbersStored, Storable, RowStored};
+use crate::bound::Bound;
+use crate::listed::Rows;
+use crate::listed::positives_of;
+use crate::scan::scan_of;
+use tables::EQUATION_PLACES;
+use tables::LITERAL;
+use tables::NO_OPERATION;
+use tables::OPERATION;
+use tables::POSITIVE_PLACES;
+use tables::RULE;
+use tables::row::put_row;
+
+// What a rule's own row says of its body: how many literals, whether one has an operation, the rows of the equations that bind and of the
+// positive literals.
+struct Numbers {
+    literals: usize,
+    operation: u64,
+    equations: Rows,
+    positives: Rows,
+}
+
+// 1 where some row of a body has an operation, else 0. The body has `count` rows from `first` on.
+fn has_operation(literals: &[u64], first: usize, count: usize) -> u64
+    requires { ⌜ BodyInside (now literals) first count ⌝ }
+    ensures { λ r. ⌜ r ≡ cond (some-operation (now (literals .entry)) count first) 1 0 ⌝ }
+{
+    let mut i = 0;
+    while i < count {
+        if literals[(first + i) * LITERAL + OPERATION] != NO_OPERATION {
+            return 1;
+        }
+        i += 1;
+    }
+    0
+}
+
+// The row of the rule with a number, whose head has the row `head` and whose body the rows from `first` on.
+fn put_numbers(rules: &mut [u64], number: usize, head: u64, first: usize, numbers: Numbers)
+    requires { ⌜ number * rule-stride + rule-stride ≤ length (now rules) ⌝ }
+    ensures { λ _. ⌜ NumbersStored (now (rules .entry)) number head first numbers (now (rules .exit)) ⌝ }
+{
+    let at = number * RULE;
+    let equations = numbers.equations;
+    let positives = numbers.positives;
+    let header = [
+        head,
+        first as u64,
+        numbers.literals as u64,
+        numbers.operation,
+        equations.count as u64,
+        positives.count as u64,
+    ];
+    put_row(rules, at, &header);
+    let binding = equations.rows;
+    put_row(rules, at + EQUATION_PLACES, &binding);
+    let positive = positives.rows;
+    put_row(rules, at + POSITIVE_PLACES, &positive);
+}
+
+// The same, where the body has `count` rows: the variables that they bind.
+pub fn put_rule_row(
+    rules: &mut [u64],
+    literals: &[u64],
+    number: usize,
+    head: u64,
+    first: usize,
+    count: usize,
+) -> Bound
+    requires { ⌜ Storable (now rules) (now literals) number first count ⌝ }
+    ensures { λ r. ⌜ RowStored (now (rules .entry)) (now (literals .entry)) number head first count r (now (rules .exit)) ⌝ }
+{
+    let found = scan_of(literals, first, count);
+    let positives = positives_of(literals, first, count);
+    let operation = has_operation(literals, first, count);
+    let equations = found.equations;
+    let numbers = Numbers {
+        literals: count,
+        operation,
+        equations,
+        positives,
+    };
+    put_numbers(rules, number, head, first, numbers);
+    found.bound
+}

@@ -1,0 +1,34 @@
+// The first variable of a rule that is not bound.
+ghost use Rattle.lexis.specs.Places.{places-in};
+ghost use Rattle.rulesafety.specs.Bound.{bitsOf};
+ghost use Rattle.rulesafety.specs.Unbound.{Numbered, FirstUnbound};
+use crate::bound::Bound;
+use lexis::Place;
+use lexis::places::place_in;
+
+// The first variable that is not bound, at its first occurrence; or none was found, and the place is empty.
+pub struct Unbound {
+    pub found: bool,
+    pub place: Place,
+}
+
+// The variable with the least number that is not bound, of `count`. `variables` has where each of them first stands, by its number.
+pub fn first_unbound(bound: Bound, variables: &[u32], count: usize) -> Unbound
+    requires { ⌜ Numbered (now variables) count ⌝ }
+    ensures { λ r. ⌜ FirstUnbound (bitsOf bound) (places-in (now (variables .entry)) count) r ⌝ }
+{
+    let mut number = 0;
+    while number < count {
+        if !bound.bits[number] {
+            return Unbound {
+                found: true,
+                place: place_in(variables, number),
+            };
+        }
+        number += 1;
+    }
+    Unbound {
+        found: false,
+        place: Place { start: 0, len: 0 },
+    }
+}
