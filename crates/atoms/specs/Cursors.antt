@@ -4,9 +4,9 @@ use mathlib.Core.List.{List}
 use lib.ListN.{length}
 use Rattle.lexis.specs.declared.Place.{Place}
 use Rattle.lexis.specs.Places.{places-in}
+use Rattle.lexis.specs.Sizes.{most-text}
 use Rattle.meaning.specs.Rules.{Bytes}
 use Rattle.grammar.specs.Sizes.{most-variables}
-use Rattle.names.specs.Table.{text-size}
 use Rattle.rows.specs.Growth.{Room, Source}
 use Rattle.atoms.specs.declared.cursor.Cursor.{Cursor}
 
@@ -14,7 +14,7 @@ use Rattle.atoms.specs.declared.cursor.Cursor.{Cursor}
 -- many as a rule may have
 pub record Ready (program output text : Bytes) (names variables : List ℕ) (k : Cursor) : Type 0 where
   pub source : Source program output text (k .base)
-  pub short : length text ≤ text-size
+  pub short : length text ≤ most-text
   pub inside : k .at ≤ length text
   pub room : Room program output names (length text - k .at)
   pub few : k .met ≤ most-variables

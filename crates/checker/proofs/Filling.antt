@@ -8,6 +8,8 @@ use lib.ListN.{length, length-take}
 use lib.Seq.{take-all}
 use Rattle.lexis.specs.declared.Place.{Place}
 use Rattle.lexis.specs.Tokens.{part}
+use Rattle.lexis.specs.Sizes.{most-text}
+use Rattle.lexis.specs.Places.{place-from}
 use Rattle.meaning.specs.Rules.{Bytes, Rule}
 use Rattle.meaning.specs.Values.{Value}
 use Rattle.grammar.specs.Trees.{Program}
@@ -16,7 +18,6 @@ use Rattle.stages.specs.Stage.{on}
 use Rattle.program.specs.Stage.{ProgramStage}
 use Rattle.program.proofs.Taken.{read-is-read}
 use Rattle.program.proofs.Safe.{read-is-safe}
-use Rattle.output.specs.Output.{most-bytes}
 use Rattle.output.specs.Tables.{Tables, Lent, FactsHeld}
 use Rattle.codes.proofs.Pairwise.{pairwise-more}
 use Rattle.codes.proofs.Names.{coded-rule-more}
@@ -29,13 +30,16 @@ use Rattle.checker.specs.Standing.{names-of-both, RulesStand, RulesHeld,
 -- ---- an output cut to its size
 
 abbrev whole-size : Place
-whole-size = record { start = 0; len = 65_536 }
+whole-size = place-from 0 most-text
 
-cut-small : (output : Bytes) → length (part output whole-size) ≤ 65_536
+cut-small : (output : Bytes) → length (part output whole-size) ≤ most-text
 cut-small output = simp length-take (omega arith)
 
-cut-whole : (output : Bytes) → length output ≤ most-bytes → part output whole-size ≡ output
-cut-whole output h = take-all 65_536 output h
+cut-whole : (output : Bytes) → length output ≤ most-text → part output whole-size ≡ output
+cut-whole output h = take-all most-text output h
+
+pub cut-at : (output : Bytes) {within : Bytes} {p : Place} → within ≡ part output p → p ≡ whole-size → within ≡ part output whole-size
+cut-at output e q = e ∙ ap (part output) q
 
 module _ (program output : Bytes) where
   -- ---- room for the names of both
@@ -72,10 +76,10 @@ module _ (program output : Bytes) where
 
     -- what was promised of the output's cut holds of the output, where it is within its size
     module _ (within : Bytes) (e : within ≡ part output whole-size) (fills : FillsRules program within names rules literals c total names′ rules′ literals′) where
-      of-output : length output ≤ most-bytes → FillsRules program output names rules literals c total names′ rules′ literals′
+      of-output : length output ≤ most-text → FillsRules program output names rules literals c total names′ rules′ literals′
       of-output size = rw (e ∙ cut-whole output size) at fills
 
-      pub with-rules-held : length output ≤ most-bytes → RulesHeld program output names′ rules′ literals′ total (rules-for c)
+      pub with-rules-held : length output ≤ most-text → RulesHeld program output names′ rules′ literals′ total (rules-for c)
       with-rules-held size = rules-held (of-output size)
 
       pub with-rules-ready : Empty (names-of-both program output) names → WithRules program output names′ rules′ literals′ total
@@ -99,7 +103,7 @@ module _ (program output : Bytes) where
 
   module _ (line : Place) (fs : Program true) (t : Tables) (n : ℕ) (u : Tables) (f : FactsHeld program output line fs t n u) where
     pub all-placed : Placed output line (u .starts) (u .lengths) n
-    all-placed = record { each = λ k l. ap₂ (λ (a b : ℕ). record { start = a; len = b }) (f .starts-hold .first k l) (f .lengths-hold .first k l) }
+    all-placed = record { each = λ k l. ap₂ place-from (f .starts-hold .first k l) (f .lengths-hold .first k l) }
 
     module _ (rules literals : List ℕ) (total : ℕ) where
       pub held-all : (P : List (Rule Value)) → RulesHeld program output (t .names) rules literals total P → Held program output (u .names) rules literals (u .facts) n total P (facts-for fs)

@@ -73,8 +73,8 @@ module _ (the-program the-output : Bytes) (code : ℕ) (places : List ℕ) where
       abbrev Reporting : Word → Type 0
       Reporting w = (x : Report) × OutputStage the-output (on x) × (agrees w code ≡ eqb code (code-of x))
 
-      report-of : (w : Word) → Reports the-output (s .line) (s .count) w → Reporting w
-      report-of words.Answer h = (facts (s .line) (h .0), h .2, refl)
+      report-of : (w : Word) → Reports the-output (s .count) w → Reporting w
+      report-of words.Answer h = (facts (h .0) (h .1), h .3, refl)
       report-of words.Inconsistent h = (claim-none, h, refl)
       report-of words.Unknown h = (claim-unknown, h, refl)
 
@@ -92,12 +92,12 @@ module _ (the-program the-output : Bytes) (code : ℕ) (places : List ℕ) where
         -- what is only claimed
         pub by-none : s .word ≡ words.Inconsistent → (a : Answer) → a ≡ claimed ClaimedNone → Here a places
         by-none e a g =
-            let h : Reports the-output (s .line) (s .count) words.Inconsistent = rw e at (output-says the-output s read y) in
+            let h : Reports the-output (s .count) words.Inconsistent = rw e at (output-says the-output s read y) in
             hands-on _ places paper.claimed-none places (agreed claim-none (rw e at (inv agreeing ∙ not-false b n)) h _ refl) a (rw g none-says)
 
         pub by-unknown : s .word ≡ words.Unknown → (a : Answer) → a ≡ claimed ClaimedUnknown → Here a places
         by-unknown e a g =
-            let h : Reports the-output (s .line) (s .count) words.Unknown = rw e at (output-says the-output s read y) in
+            let h : Reports the-output (s .count) words.Unknown = rw e at (output-says the-output s read y) in
             hands-on _ places paper.claimed-unknown places (agreed claim-unknown (rw e at (inv agreeing ∙ not-false b n)) h _ refl) a (rw g unknown-says)
 
         -- a candidate

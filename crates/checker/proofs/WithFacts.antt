@@ -20,7 +20,7 @@ use Rattle.checker.specs.declared.answer.Text.the-variants.{Output}
 use Rattle.checker.specs.declared.answer.Answer.{Answer}
 use Rattle.checker.specs.Values.{refused}
 use Rattle.checker.specs.Checked.{Answers}
-use Rattle.checker.specs.Standing.{Held, Settling, Behind, place-in, Placed, WithFacts}
+use Rattle.checker.specs.Standing.{Held, Settling, Behind, fact-place, Placed, WithFacts}
 use Rattle.checker.proofs.Clashing.{counted, first-clashes, none-clashes}
 use Rattle.checker.proofs.Ways.{refuses, answers-as}
 
@@ -44,7 +44,7 @@ module _ (program output : Bytes) (names rules literals facts : List ℕ) (count
       Here = Answers (Behind program output line places P I) places
 
       -- 6 or 7
-      pub by-clash : (r .number ≡ 0 → ⊥) → (starts lengths : List ℕ) → Placed output line starts lengths count → (place : Place) → place ≡ place-in starts lengths (r .fact) → (a : Answer) → a ≡ refused (r .number) Output place → Here a places
+      pub by-clash : (r .number ≡ 0 → ⊥) → (starts lengths : List ℕ) → Placed output line starts lengths count → (place : Place) → place ≡ fact-place starts lengths (r .fact) → (a : Answer) → a ≡ refused (r .number) Output place → Here a places
       by-clash z starts lengths placed place e a f =
           let stage = first-clashes named (h .rules-held .name-table .distinct) facts count I (h .facts-stand) r (found named) (fact-part output line) z in
           let there = e ∙ placed .each (r .fact) (found named .here z .0) in

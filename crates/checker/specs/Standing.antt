@@ -6,6 +6,8 @@ use Prim.Native.Nat.{ℕ, _+_, _≤_, _<_, min}
 use lib.ListN.{length, getD, take}
 use Rattle.lexis.specs.declared.Place.{Place}
 use Rattle.lexis.specs.Tokens.{part}
+use Rattle.lexis.specs.Sizes.{most-text}
+use Rattle.lexis.specs.Places.{place-from}
 use Rattle.meaning.specs.Sets.{every}
 use Rattle.meaning.specs.Rules.{Bytes, Fact, Rule}
 use Rattle.meaning.specs.Values.{Value}
@@ -24,7 +26,7 @@ use Rattle.grammar.specs.Abstraction.{rules-for}
 use Rattle.stages.specs.Parts.{Text, start-of}
 use Rattle.stages.specs.Stage.{Stage, _⟫_, Refuse, First}
 use Rattle.sentences.specs.Sentences.{sentence}
-use Rattle.output.specs.Output.{most-bytes, on-line, OutputStage}
+use Rattle.output.specs.Output.{on-line, OutputStage}
 use Rattle.answered.specs.Answer.{Result}
 use Rattle.answered.specs.Cases.{Clash}
 use Rattle.answered.specs.Answered.{rule-part, fact-part, Reported, code-of}
@@ -85,12 +87,12 @@ Behind program output line places P I =
     Settled (rule-part program) P I places
 
 -- where fact k stands, by tables of starts and lengths
-abbrev pub place-in : List ℕ → List ℕ → ℕ → Place
-place-in starts lengths k = record { start = getD starts k 0; len = getD lengths k 0 }
+abbrev pub fact-place : List ℕ → List ℕ → ℕ → Place
+fact-place starts lengths k = place-from (getD starts k 0) (getD lengths k 0)
 
 -- the tables have the places of so many facts of a line
 pub record Placed (output : Bytes) (line : Place) (starts lengths : List ℕ) (count : ℕ) : Type 0 where
-  pub each : (k : ℕ) → k < count → place-in starts lengths k ≡ on-line line (sentence true (part output line) k)
+  pub each : (k : ℕ) → k < count → fact-place starts lengths k ≡ on-line line (sentence true (part output line) k)
 
 -- the tables stand for rules and facts, and have the predicate and a place of each fact
 pub record WithFacts (program output : Bytes) (names rules literals facts predicates starts lengths : List ℕ) (count total : ℕ) : Type 0 where
@@ -116,9 +118,9 @@ BehindProgram program output code places c =
 -- the tables stand for the rules of a program, and have room for the names of the facts; all this beside an output within its size
 pub record WithRules (program output : Bytes) (names rules literals : List ℕ) (total : ℕ) : Type 0 where
   pub tree-of : Program false
-  pub held : length output ≤ most-bytes → RulesHeld program output names rules literals total (rules-for tree-of)
-  pub room : length output ≤ most-bytes → Room program output names (length output)
+  pub held : length output ≤ most-text → RulesHeld program output names rules literals total (rules-for tree-of)
+  pub room : length output ≤ most-text → Room program output names (length output)
 
 abbrev pub AnswersRules : (program output : Bytes) (code : ℕ) (names rules literals : List ℕ) (total : ℕ) → List ℕ → Answer → List ℕ → Type 0
 AnswersRules program output code names rules literals total places a left =
-    (c : Program false) → (length output ≤ most-bytes → RulesHeld program output names rules literals total (rules-for c)) → Answers (BehindProgram program output code places c) places a left
+    (c : Program false) → (length output ≤ most-text → RulesHeld program output names rules literals total (rules-for c)) → Answers (BehindProgram program output code places c) places a left

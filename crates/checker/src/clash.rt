@@ -2,23 +2,15 @@
 ghost use mathlib.Core.Path.{_≡_};
 ghost use Prim.Native.Nat.{_<_};
 ghost use lib.ListN.{length};
-ghost use Rattle.checker.specs.Standing.{place-in};
+ghost use Rattle.checker.specs.Standing.{fact-place};
 use lexis::Place;
-
-// The place of a number.
-fn wide(n: u32) -> usize
-    ensures { λ r. ⌜ r ≡ n ⌝ }
-{
-    n as usize
-}
+use lexis::place_from;
+use lexis::places::number_at;
 
 // Where fact k of the candidate stands in the output, by the tables of all facts' starts and lengths.
 pub fn fact_part(starts: &[u32], lengths: &[u32], k: usize) -> Place
     requires { ⌜ (k < length (now starts)) × (k < length (now lengths)) ⌝ }
-    ensures { λ r. ⌜ r ≡ place-in (now (starts .entry)) (now (lengths .entry)) k ⌝ }
+    ensures { λ r. ⌜ r ≡ fact-place (now (starts .entry)) (now (lengths .entry)) k ⌝ }
 {
-    Place {
-        start: wide(starts[k]),
-        len: wide(lengths[k]),
-    }
+    place_from(number_at(starts, k), number_at(lengths, k))
 }

@@ -6,7 +6,7 @@ ghost use Rattle.checker.specs.Standing.{names-of-both};
 use answer::Answer;
 use answer::Text;
 use answer::refused;
-use lexis::Place;
+use lexis::place_from;
 use lexis::sizes::MOST_TEXT;
 use names::SMALL_TEXT;
 use program::read_program;
@@ -36,13 +36,7 @@ fn with_names<'a>(
     let mut rules = rule_table();
     let mut literals = literal_table();
     // The size of the output is not known yet, and no name is looked for behind its size.
-    let within = lexis::parts::part(
-        output,
-        Place {
-            start: 0,
-            len: MOST_TEXT,
-        },
-    );
+    let within = lexis::parts::part(output, place_from(0, MOST_TEXT));
     let read = read_program(program, within, names, &mut rules, &mut literals);
     if read.code != 0 {
         let place = read.place;

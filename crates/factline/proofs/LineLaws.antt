@@ -12,7 +12,7 @@ use lib.ListN.{length, getD, take, set, length-set, length-take, length-drop}
 use lib.Seq.{take-suc-set, take-set-le, drop-set-lt, getD-set-same, getD-set-other}
 use borrow.Author.Tests.{eqb-true, eqb-false, ltb-true, ltb-false, leb-false}
 use Rattle.lexis.specs.declared.Place.{Place}
-use Rattle.lexis.specs.Places.{nowhere}
+use Rattle.lexis.specs.Places.{place-from, nowhere}
 use Rattle.lexis.specs.Tokens.{part}
 use Rattle.reading.specs.Reading.{Placed, Answer}
 use Rattle.reading.proofs.Lists.{none-some, some-inj}
@@ -40,7 +40,7 @@ use Rattle.tables.specs.Layout.{fact-stride}
 use Rattle.tables.specs.Rows.{from, fact-predicate, fact-arguments, facts-of}
 use Rattle.tables.specs.Stored.{Kept}
 use Rattle.tables.proofs.Stored.{kept-self, kept-then, kept-wider}
-use Rattle.names.specs.Texts.{place-at, bytes-at}
+use Rattle.names.specs.Texts.{bytes-at}
 use Rattle.names.specs.Table.{names-of}
 use Rattle.names.proofs.Standing.{in-output, own-length}
 use Rattle.rows.specs.Growth.{Room, Source, Grows}
@@ -133,9 +133,9 @@ module _ (program output : Bytes) (line : Place) (text : Bytes) (et : text ≡ p
   -- the line stands in the two texts
   source : Source program output text (length program + line .start)
   source =
-      let place = place-at (length program + line .start) (line .len) in
+      let place = place-from (length program + line .start) (line .len) in
       let e : bytes-at program output place ≡ text = in-output program output line ∙ inv et in
-      inv e ∙ inv (own-length program output place) ∙ ap (λ (b : Bytes). bytes-at program output (place-at (length program + line .start) (length b))) e
+      inv e ∙ inv (own-length program output place) ∙ ap (λ (b : Bytes). bytes-at program output (place-from (length program + line .start) (length b))) e
 
   -- there is room for the names of what lies ahead
   pub going-ready : (over : Bool) → Ready program output text names variables (at-fact (length program + line .start) at over)

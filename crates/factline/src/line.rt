@@ -7,13 +7,12 @@ use crate::fact::fact_at;
 use lexis::NOWHERE;
 use lexis::Place;
 use lexis::parts::part;
+use lexis::places::PLACE;
 use lexis::sizes::MOST_FACTS;
+use lexis::sizes::MOST_VARIABLES;
 use rows::literal::AtomCodes;
 use tables::FACT;
 use tables::row::put_row;
-
-// The numbers of the places of a rule's variables, two each.
-const VARIABLES: usize = 32;
 
 // How many facts there are; or the refusal and its place on the line.
 pub struct FactsRead {
@@ -78,7 +77,7 @@ pub fn read_line<'a>(
 {
     let text = part(output, line);
     let base = program.len() + line.start;
-    let mut variables = [0u32; VARIABLES];
+    let mut variables = [0u32; MOST_VARIABLES * PLACE];
     let mut at = 0;
     let mut count = 0;
     loop {

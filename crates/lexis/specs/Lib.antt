@@ -1,4 +1,5 @@
 -- In the order to read them in.
+pub mod Sizes
 pub mod Class
 pub mod Run
 pub mod Gap
@@ -7,6 +8,6 @@ pub mod Kind
 pub mod Spelling
 pub mod Spells
 pub mod Longest
+pub mod Places
 pub mod Token
 pub mod Tokens
-pub mod Places

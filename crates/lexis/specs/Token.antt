@@ -15,9 +15,10 @@ use Rattle.lexis.specs.Run.{goesOn, prefixLen}
 use Rattle.lexis.specs.Gap.{gap}
 use Rattle.lexis.specs.Kind.{isStray}
 use Rattle.lexis.specs.Spelling.{singleKind, pairKind, nameKind}
+use Rattle.lexis.specs.Places.{place-from}
 
 abbrev pub placed : Kind → ℕ → ℕ → Token
-placed kind start len = record { kind = kind; place = record { start = start; len = len } }
+placed kind start len = record { kind = kind; place = place-from start len }
 
 -- two bytes are read as one mark where they are one
 unfoldable pub markAt : ℕ → ℕ → ℕ → Token

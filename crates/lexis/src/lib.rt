@@ -1,5 +1,6 @@
 // Bytes to tokens: a byte's class, blanks and comments, words, numbers, marks, and the token at a place.
 ghost use mathlib.Core.Path.{_≡_};
+ghost use Rattle.lexis.specs.Places.{place-from};
 ghost use Rattle.lexis.specs.Token.{placed, markAt, tokenAt, nextToken};
 use class::Class;
 use class::class_of;
@@ -31,6 +32,13 @@ pub struct Place {
 // The part that names nothing: empty, at a text's start.
 pub const NOWHERE: Place = Place { start: 0, len: 0 };
 
+// The part that starts at a byte and has a length.
+pub fn place_from(start: usize, len: usize) -> Place
+    ensures { λ r. ⌜ r ≡ place-from start len ⌝ }
+{
+    Place { start, len }
+}
+
 // A token: what it is, and where it stands.
 pub struct Token {
     pub kind: Kind,
@@ -43,7 +51,7 @@ fn placed(kind: Kind, start: usize, len: usize) -> Token
 {
     Token {
         kind,
-        place: Place { start, len },
+        place: place_from(start, len),
     }
 }
 

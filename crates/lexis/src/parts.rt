@@ -38,7 +38,7 @@ pub fn same_bytes(a: &[u8], b: &[u8]) -> bool
     b.len() == i
 }
 
-// How many of a table's things there are, where it has room for `most` of them.
+// The lesser of two counts: how many things there are, or for how many there is room.
 pub fn least(count: usize, most: usize) -> usize
     ensures { λ r. ⌜ r ≡ min count most ⌝ }
 {

@@ -4,6 +4,7 @@ ghost use Prim.Native.Nat.{_+_, _*_, _≤_, _<_};
 ghost use lib.ListN.{length, getD, set};
 ghost use Rattle.lexis.specs.Places.{number-limit, place-in, with-place};
 use crate::Place;
+use crate::place_from;
 
 // The numbers of a place.
 pub const PLACE: usize = 2;
@@ -32,7 +33,7 @@ pub fn place_in(places: &[u32], i: usize) -> Place
     let at = i * PLACE;
     let start = number_at(places, at);
     let len = number_at(places, at + 1);
-    Place { start, len }
+    place_from(start, len)
 }
 
 // The place with a number is another.

@@ -4,9 +4,10 @@ use mathlib.Core.List.{List, []}
 use Prim.Native.Nat.{ℕ, _+_, _≤_, _<_}
 use native.Mathlib.Omega.{arith}
 use lib.ListN.{length, getD, replicate, length-replicate, getD-replicate}
+use Rattle.lexis.specs.Sizes.{most-text}
 use Rattle.meaning.specs.Rules.{Bytes}
 use Rattle.codes.proofs.Names.{distinct-none}
-use Rattle.names.specs.Table.{first-row, capacity, text-size, count, first, names-of, Table}
+use Rattle.names.specs.Table.{first-row, capacity, count, first, names-of, Table}
 use Rattle.names.specs.Numbering.{Empty}
 
 module _ (program output : Bytes) (table : List ℕ) (zeros : (j : ℕ) → j < first-row → getD table j 0 ≡ 0) where
@@ -14,7 +15,7 @@ module _ (program output : Bytes) (table : List ℕ) (zeros : (j : ℕ) → j < 
   unfolding first
   no-names = rw (zeros 0 (omega arith))
 
-  pub emptied : length program ≤ text-size → length output ≤ text-size → first-row ≤ length table → Table program output table
+  pub emptied : length program ≤ most-text → length output ≤ most-text → first-row ≤ length table → Table program output table
   emptied p o s =
       let none : count table ≡ 0 = zeros 0 (omega arith) in
       record {

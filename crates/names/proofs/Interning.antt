@@ -6,10 +6,11 @@ use Prim.Native.Nat.{ℕ}
 use native.Mathlib.Omega.{arith}
 use lib.ListN.{length}
 use Rattle.lexis.specs.declared.Place.{Place}
+use Rattle.lexis.specs.Places.{place-from}
 use Rattle.meaning.specs.Rules.{Bytes}
 use Rattle.names.specs.declared.Found.{Found}
 use Rattle.names.specs.declared.Found.the-variants.{At, Nothing}
-use Rattle.names.specs.Texts.{place-at, bytes-at}
+use Rattle.names.specs.Texts.{bytes-at}
 use Rattle.names.specs.Table.{capacity, count, name-at, names-of, slot-of, with-row, Table, Addable}
 use Rattle.names.specs.Numbering.{Absent, Finds, held, added, Interns}
 use Rattle.names.proofs.Firsts.{length-first}
@@ -22,9 +23,9 @@ not-there : (names : List Bytes) (name : Bytes) (f : Found) → f ≡ Nothing �
 not-there names name (At i) e h = absurd (let z : _≡_ {A = ℕ} 0 1 = cc in let y : ⊥ = omega arith in y)
 not-there names name Nothing e h = h
 
-module _ (program output : Bytes) (table : List ℕ) (t : Table program output table) (start : ℕ) (name : Bytes) (b : name ≡ bytes-at program output (place-at start (length name))) (f : Found) (finds : Finds (names-of program output table) name f) where
+module _ (program output : Bytes) (table : List ℕ) (t : Table program output table) (start : ℕ) (name : Bytes) (b : name ≡ bytes-at program output (place-from start (length name))) (f : Found) (finds : Finds (names-of program output table) name f) where
   abbrev place : Place
-  place = place-at start (length name)
+  place = place-from start (length name)
 
   pub interned-held : (i : ℕ) → f ≡ At i → Interns program output table name table f
   interned-held i e = go f e finds

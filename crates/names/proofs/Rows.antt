@@ -6,8 +6,8 @@ use native.Mathlib.Omega.{arith}
 use lib.ListN.{length, getD, set, length-set}
 use lib.Seq.{getD-set-same, getD-set-other}
 use Rattle.lexis.specs.declared.Place.{Place}
+use Rattle.lexis.specs.Places.{place-from}
 use Rattle.names.specs.Table.{row, count, head, link, place-of, with-row, Addable}
-use Rattle.names.specs.Texts.{place-at}
 
 other : (l : List ℕ) (i j a : ℕ) → (j ≡ i → ⊥) → getD (set l i a) j 0 ≡ getD l j 0
 other l i j a h = getD-set-other l i j a 0 h
@@ -65,4 +65,4 @@ module _ (table : List ℕ) (slot : ℕ) (place : Place) where
     after-len = new-row (row (count table) + 1) (omega arith) ∙ other placed (row (count table) + 2) (row (count table) + 1) _ (λ e. omega arith) ∙ same started (row (count table) + 1) _ (simp length-set (inside (row (count table) + 1) (omega arith)))
 
     pub after-place : place-of (with-row table slot place) (count table) ≡ place
-    after-place = ap₂ place-at after-start after-len
+    after-place = ap₂ place-from after-start after-len

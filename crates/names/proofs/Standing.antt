@@ -10,8 +10,9 @@ use lib.Seq.{take-nil}
 use borrow.Author.Tests.{ltb-true, ltb-false, lt-ltb, le-ltb}
 use Rattle.lexis.specs.declared.Place.{Place}
 use Rattle.lexis.specs.Tokens.{part}
+use Rattle.lexis.specs.Places.{place-from}
 use Rattle.meaning.specs.Rules.{Bytes}
-use Rattle.names.specs.Texts.{place-at, bytes-at}
+use Rattle.names.specs.Texts.{bytes-at}
 use Rattle.names.specs.Table.{place-of, name-at}
 
 take-own : (n : ℕ) (l : Bytes) → take (length (take n l)) l ≡ take n l
@@ -24,7 +25,7 @@ module _ (program output : Bytes) where
   unfolding bytes-at
   in-program place h = rw (lt-ltb _ _ h)
 
-  pub in-output : (place : Place) → bytes-at program output (place-at (length program + place .start) (place .len)) ≡ part output place
+  pub in-output : (place : Place) → bytes-at program output (place-from (length program + place .start) (place .len)) ≡ part output place
   unfolding bytes-at
   in-output place =
       let past : length program ≤ length program + place .start = omega arith in
@@ -36,11 +37,11 @@ module _ (program output : Bytes) where
   unfolding name-at
   name-read table i place bytes p b = b ∙ ap (bytes-at program output) p
 
-  pub nothing-at : (start : ℕ) → bytes-at program output (place-at start 0) ≡ []
+  pub nothing-at : (start : ℕ) → bytes-at program output (place-from start 0) ≡ []
   unfolding bytes-at
   nothing-at start = go (ltb start (length program)) refl
     where
-      go : (t : Bool) → ltb start (length program) ≡ t → bytes-at program output (place-at start 0) ≡ []
+      go : (t : Bool) → ltb start (length program) ≡ t → bytes-at program output (place-from start 0) ≡ []
       go true e = rw e
       go false e = rw e
 
@@ -68,10 +69,10 @@ module _ (program output : Bytes) where
       go false e = rw e (simp (length-take, length-drop) (omega arith))
 
   -- as many bytes as stand at a place are those bytes
-  pub own-length : (place : Place) → bytes-at program output (place-at (place .start) (length (bytes-at program output place))) ≡ bytes-at program output place
+  pub own-length : (place : Place) → bytes-at program output (place-from (place .start) (length (bytes-at program output place))) ≡ bytes-at program output place
   unfolding bytes-at
   own-length place = go (ltb (place .start) (length program)) refl
     where
-      go : (t : Bool) → ltb (place .start) (length program) ≡ t → bytes-at program output (place-at (place .start) (length (bytes-at program output place))) ≡ bytes-at program output place
+      go : (t : Bool) → ltb (place .start) (length program) ≡ t → bytes-at program output (place-from (place .start) (length (bytes-at program output place))) ≡ bytes-at program output place
       go true e = rw e (take-own (place .len) (drop (place .start) program))
       go false e = rw e (take-own (place .len) (drop (place .start - length program) output))

@@ -5,8 +5,9 @@ use mathlib.Core.Option.{some}
 use mathlib.Core.List.{List, [], _∷_, _++_}
 use Prim.Native.Nat.{ℕ, _≤_}
 use lib.ListN.{length, getElem?}
+use Rattle.lexis.specs.Sizes.{most-text}
 use Rattle.meaning.specs.Rules.{Bytes}
-use Rattle.names.specs.Table.{capacity, text-size, names-of, Table}
+use Rattle.names.specs.Table.{capacity, names-of, Table}
 use Rattle.names.specs.declared.Found.{Found}
 use Rattle.names.specs.declared.Found.the-variants.{At, Nothing}
 
@@ -15,7 +16,7 @@ Absent names name = (i : ℕ) → getElem? names i ≡ some name → ⊥
 
 -- beside any two texts within their size, a table in order that has no names and room for n
 pub record Empty (n : ℕ) (table : List ℕ) : Type 0 where
-  pub in-order : (program output : Bytes) → length program ≤ text-size → length output ≤ text-size → Table program output table
+  pub in-order : (program output : Bytes) → length program ≤ most-text → length output ≤ most-text → Table program output table
   pub no-names : (program output : Bytes) → names-of program output table ≡ []
   pub room : n ≤ capacity (length table)
 

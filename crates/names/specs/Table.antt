@@ -5,10 +5,11 @@ use mathlib.Core.List.{List, [], _∷_, _++_}
 use Prim.Native.Nat.{ℕ, zero, suc, _+_, _-_, _*_, _/_, _%_, _≤_, _<_, min}
 use lib.ListN.{length, getD, set}
 use Rattle.lexis.specs.declared.Place.{Place}
-use Rattle.lexis.specs.Places.{number-limit}
+use Rattle.lexis.specs.Places.{place-from, number-limit}
+use Rattle.lexis.specs.Sizes.{most-text}
 use Rattle.meaning.specs.Rules.{Bytes}
 use Rattle.codes.specs.Codes.{Distinct}
-use Rattle.names.specs.Texts.{place-at, bytes-at}
+use Rattle.names.specs.Texts.{bytes-at}
 
 abbrev pub slots : ℕ
 slots = 4_096
@@ -35,10 +36,6 @@ few-names = 8_192
 abbrev pub small-size : ℕ
 small-size = 28_673
 
--- the most bytes of each text
-abbrev pub text-size : ℕ
-text-size = 65_536
-
 abbrev pub factor : ℕ
 factor = 241
 
@@ -58,7 +55,7 @@ link table i = getD table (row i + 2) 0
 
 -- where a name's bytes stand in the two texts
 abbrev pub place-of : List ℕ → ℕ → Place
-place-of table i = place-at (getD table (row i) 0) (getD table (row i + 1) 0)
+place-of table i = place-from (getD table (row i) 0) (getD table (row i + 1) 0)
 
 -- ---- the names that a table stands for
 
@@ -95,8 +92,8 @@ pub record Latest (name : ℕ → Bytes) (slot n link : ℕ) : Type 0 where
   pub latest : (i : ℕ) → i < n → slot-of (name i) ≡ slot → i < link
 
 pub record Table (program output : Bytes) (table : List ℕ) : Type 0 where
-  pub program-size : length program ≤ text-size
-  pub output-size : length output ≤ text-size
+  pub program-size : length program ≤ most-text
+  pub output-size : length output ≤ most-text
   pub size : first-row ≤ length table
   pub room : count table ≤ capacity (length table)
   pub distinct : Distinct (names-of program output table)

@@ -5,14 +5,12 @@ use lib.Dec.{ltb}
 use lib.ListN.{length}
 use Rattle.lexis.specs.declared.Place.{Place}
 use Rattle.lexis.specs.Tokens.{part}
+use Rattle.lexis.specs.Places.{place-from}
 use Rattle.meaning.specs.Rules.{Bytes}
-
-abbrev pub place-at : ℕ → ℕ → Place
-place-at start len = record { start = start; len = len }
 
 -- the bytes of a place: in the program where it starts there, else in the output
 unfoldable pub bytes-at : Bytes → Bytes → Place → Bytes
 bytes-at program output place =
     cond (ltb (place .start) (length program))
     (part program place)
-    (part output (place-at (place .start - length program) (place .len)))
+    (part output (place-from (place .start - length program) (place .len)))

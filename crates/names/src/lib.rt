@@ -2,11 +2,13 @@
 // The bytes stay where they are, in the program or in the solver's output.
 ghost use mathlib.Core.Path.{_≡_};
 ghost use lib.ListN.{length};
-ghost use Rattle.names.specs.Texts.{place-at, bytes-at};
+ghost use Rattle.lexis.specs.Places.{place-from};
+ghost use Rattle.names.specs.Texts.{bytes-at};
 ghost use Rattle.names.specs.Table.{most-names, few-names, Table, names-of, bytes-of, slot-of};
 ghost use Rattle.names.specs.Numbering.{Empty, Finds, Interns};
-use lexis::Place;
+use lexis::NOWHERE;
 use lexis::parts::same_bytes;
+use lexis::place_from;
 use lexis::sizes::MOST_TEXT;
 use text::bytes_at;
 
@@ -70,7 +72,7 @@ pub fn intern<'a>(
     name: &'a [u8],
     start: usize,
 ) -> Found
-    requires { ⌜ Table (now program) (now output) (now table) × (now name ≡ bytes-at (now program) (now output) (place-at start (length (now name)))) ⌝ }
+    requires { ⌜ Table (now program) (now output) (now table) × (now name ≡ bytes-at (now program) (now output) (place-from start (length (now name)))) ⌝ }
     ensures { λ r. ⌜ Interns (now (program .entry)) (now (output .entry)) (now (table .entry)) (now (name .entry)) (now (table .exit)) r ⌝ }
 {
     if name.len() == 0 {
@@ -85,8 +87,7 @@ pub fn intern<'a>(
     if number == table::capacity(&*table) {
         return Found::Nothing;
     }
-    let len = name.len();
-    table::add(table, slot, Place { start, len });
+    table::add(table, slot, place_from(start, name.len()));
     Found::At(number)
 }
 
@@ -96,7 +97,7 @@ pub fn bytes_of<'a>(program: &'a [u8], output: &'a [u8], table: &[u32], number: 
     ensures { λ r. ⌜ now r ≡ bytes-of (now (program .entry)) (now (output .entry)) (now (table .entry)) number ⌝ }
 {
     if table::count(table) <= number {
-        return bytes_at(program, output, Place { start: 0, len: 0 });
+        return bytes_at(program, output, NOWHERE);
     }
     bytes_at(program, output, table::place(table, number))
 }

@@ -6,6 +6,7 @@ ghost use Rattle.names.specs.Table.{slots, first-row, capacity, slot-of,
 use crate::MOST_NAMES;
 use lexis::Place;
 use lexis::parts::least;
+use lexis::place_from;
 use lexis::places::number_at;
 use lexis::places::put_number;
 
@@ -84,10 +85,7 @@ pub fn place(table: &[u32], number: usize) -> Place
     ensures { λ r. ⌜ r ≡ place-of (now (table .entry)) number ⌝ }
 {
     let at = FIRST_ROW + number * ROW;
-    Place {
-        start: number_at(table, at),
-        len: number_at(table, at + LEN),
-    }
+    place_from(number_at(table, at), number_at(table, at + LEN))
 }
 
 // A row more, for a name at a place: its link is the head of its slot, and then the head is one more than its number.

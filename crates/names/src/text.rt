@@ -3,6 +3,7 @@ ghost use mathlib.Core.Path.{_≡_};
 ghost use Rattle.names.specs.Texts.{bytes-at};
 use lexis::Place;
 use lexis::parts::part;
+use lexis::place_from;
 
 // The bytes of a place, a part of whichever text it starts in; of a place that reaches past that text, those that are there.
 pub fn bytes_at<'a>(program: &'a [u8], output: &'a [u8], place: Place) -> &'a [u8]
@@ -12,7 +13,6 @@ pub fn bytes_at<'a>(program: &'a [u8], output: &'a [u8], place: Place) -> &'a [u
     if start < program.len() {
         return part(program, place);
     }
-    let len = place.len;
     let behind = start - program.len();
-    part(output, Place { start: behind, len })
+    part(output, place_from(behind, place.len))
 }

@@ -10,6 +10,7 @@ use Rattle.lexis.specs.Tokens.{part}
 use Rattle.meaning.specs.Rules.{Bytes}
 use Rattle.grammar.specs.Trees.{Program}
 use Rattle.lexis.specs.Places.{nowhere}
+use Rattle.lexis.specs.Sizes.{most-text}
 use Rattle.sentences.proofs.Inside.{refused-inside}
 use Rattle.report.specs.declared.Report.{Report as ReportRead}
 use Rattle.report.specs.declared.word.Word.{Word}
@@ -26,7 +27,7 @@ use Rattle.factline.specs.declared.line.FactsRead.{FactsRead}
 use Rattle.rows.proofs.Growth.{room-less}
 use Rattle.factline.specs.Lines.{Fillable, FillsLine, whole, refuses}
 use Rattle.output.specs.declared.OutputRead.{OutputRead}
-use Rattle.output.specs.Output.{Report, facts, claim-none, claim-unknown, most-bytes, Opened, Opening, opens, on-line, Closing, Behind}
+use Rattle.output.specs.Output.{Report, facts, claim-none, claim-unknown, Opened, Opening, opens, on-line, Closing, Behind}
 use Rattle.output.specs.Answers.{refused as refused-fields, reported as reported-fields, report-fields, Closes}
 use Rattle.output.specs.Tables.{Tables, Lent, FactsHeld, Fills, FillsOutput}
 
@@ -73,10 +74,10 @@ module _ (program text : Bytes) (t u : Tables) where
     line-length = simp (length-take, length-drop) (omega arith)
 
     -- a place on the line lies in the output
-    pub on-line-small : line .start + f .place .start ≤ most-bytes
+    pub on-line-small : line .start + f .place .start ≤ most-text
     on-line-small = go g
       where
-        go : Line-read → line .start + f .place .start ≤ most-bytes
+        go : Line-read → line .start + f .place .start ≤ most-text
         go (whole c p fs h w) = let z : f .place .start ≡ 0 = ap (λ (x : Place). x .start) p in omega (arith, ask .inside, ask .room .in-order .output-size)
         go (refuses c n h) = omega (arith, refused-inside true (part text line) (f .code) (f .place) h, line-length, ask .inside, ask .room .in-order .output-size)
 
@@ -87,7 +88,7 @@ module _ (program text : Bytes) (t u : Tables) where
         go (whole c d fs h w) = absurd (e c)
         go (refuses c n h) = refusal-fills (f .code) (in-text output (on-line line (f .place))) (stops _ _ (fault (f .code) (f .place) h)) r (q ∙ ap (refused-fields (f .code)) p)
 
-    pub answer-closed : (next : ℕ) → f .code ≡ 0 → (before : OutputRead) → before ≡ reported-fields Answer line (f .count) → (r : OutputRead) → Closes text next before r → Fills (Behind text Answer line next) program text t r u
+    pub answer-closed : (next : ℕ) → f .code ≡ 0 → (before : OutputRead) → before ≡ reported-fields Answer (f .count) → (r : OutputRead) → Closes text next before r → Fills (Behind text Answer line next) program text t r u
     answer-closed next e before q r k = go g
       where
         held : (fs : Program true) → FactsHeld program text line fs t (f .count) u → (l : Place) (gs : Program true) → facts line fs ≡ facts l gs → FactsHeld program text l gs t (before .count) u
@@ -95,7 +96,7 @@ module _ (program text : Bytes) (t u : Tables) where
 
         go : Line-read → Fills (Behind text Answer line next) program text t r u
         go (whole c p fs h w) =
-            let d = closing-fills next before (facts line fs) (q ∙ ap (reported-fields Answer line) (w .size)) (held fs w) r k in
+            let d = closing-fills next before (facts line fs) (q ∙ ap (reported-fields Answer) (w .size)) (held fs w) r k in
             record { given = record { outcome = d .given .outcome; stage = goes fs (d .given .outcome) (read fs h) (d .given .stage); so = d .given .so }; filled = d .filled }
         go (refuses c n h) = absurd (omega arith)
 
@@ -118,17 +119,17 @@ shape text (stray line behind f n) = is-refused refl
 shape text (says line behind f word s) = said-shape text word behind
 
 -- the facts line lies inside the output, which is within its size
-pub line-fillable : (program text : Bytes) (t : Tables) → (most-bytes < length text → ⊥) → (p : ReportRead) → Reported text p → Lent program text t → Fillable program text (p .facts) (t .names) (t .facts) (t .predicates) (t .starts) (t .lengths)
+pub line-fillable : (program text : Bytes) (t : Tables) → (most-text < length text → ⊥) → (p : ReportRead) → Reported text p → Lent program text t → Fillable program text (p .facts) (t .names) (t .facts) (t .predicates) (t .starts) (t .lengths)
 line-fillable program text t size p g lent =
     let i = reported-inside text g in
-    let within : length text ≤ most-bytes = omega arith in
+    let within : length text ≤ most-text = omega arith in
     record { inside = omega arith; room = room-less program text (p .facts .len) (lent .room within) (omega arith); facts-long = lent .facts-long; predicates-long = lent .predicates-long; starts-long = lent .starts-long; lengths-long = lent .lengths-long }
 
 module _ (program text : Bytes) (t u : Tables) where
-  pub too-long : most-bytes < length text → (r : OutputRead) → r ≡ refused-fields 1 nowhere → FillsOutput program text t r u
+  pub too-long : most-text < length text → (r : OutputRead) → r ≡ refused-fields 1 nowhere → FillsOutput program text t r u
   too-long h r q = refusal-fills program text t u 1 (start-of output) (stops 1 (start-of output) (given h)) r q
 
-  module _ (size : most-bytes < length text → ⊥) (p : ReportRead) (g : Reported text p) where
+  module _ (size : most-text < length text → ⊥) (p : ReportRead) (g : Reported text p) where
     pub opening-refused : (p .code ≡ 0 → ⊥) → (r : OutputRead) → r ≡ refused-fields (p .code) (p .place) → FillsOutput program text t r u
     opening-refused e r q = go (shape text g)
       where

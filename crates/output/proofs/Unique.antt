@@ -6,6 +6,7 @@ use native.Mathlib.Omega.{arith}
 use lib.ListN.{length}
 use Rattle.lexis.specs.declared.Place.{Place}
 use Rattle.lexis.specs.Tokens.{part}
+use Rattle.lexis.specs.Sizes.{most-text}
 use Rattle.meaning.specs.Rules.{Bytes}
 use Rattle.grammar.specs.Sizes.{language}
 use Rattle.grammar.proofs.Theorems.{one-reading}
@@ -18,7 +19,7 @@ use Rattle.stages.specs.Parts.{output, in-text, start-of}
 use Rattle.stages.specs.Stage.{on, stop, Stage, Then, Refuse}
 use Rattle.stages.proofs.Unique.{One, then-one, refuse-one, reads-one}
 use Rattle.output.specs.declared.OutputRead.{OutputRead}
-use Rattle.output.specs.Output.{Report, facts, claim-none, claim-unknown, most-bytes, Opened, Opening, refuses, opens, on-line, Facts, Closing, closes, stray, Behind, OutputStage}
+use Rattle.output.specs.Output.{Report, facts, claim-none, claim-unknown, Opened, Opening, refuses, opens, on-line, Facts, Closing, closes, stray, Behind, OutputStage}
 use Rattle.output.specs.Answers.{fields, ReadsOutput}
 
 module _ (text : Bytes) where
@@ -48,9 +49,9 @@ module _ (text : Bytes) where
   pub output-one : One (OutputStage text)
   output-one =
       then-one
-      (Refuse 1 (start-of output) (most-bytes < length text))
+      (Refuse 1 (start-of output) (most-text < length text))
       (λ u. Then (Opening text) behind)
-      (refuse-one 1 (start-of output) (most-bytes < length text))
+      (refuse-one 1 (start-of output) (most-text < length text))
       (λ u. then-one (Opening text) behind opening-one (λ o. behind-one (o .word) (o .line) (o .next)))
 
   pub reads-output-unique : (r s : OutputRead) → ReadsOutput text r → ReadsOutput text s → r ≡ s

@@ -6,6 +6,7 @@ use native.Mathlib.Omega.{arith}
 use lib.ListN.{length, length-take, length-drop}
 use Rattle.lexis.specs.declared.Place.{Place}
 use Rattle.lexis.specs.Tokens.{part}
+use Rattle.lexis.specs.Sizes.{most-text}
 use Rattle.reading.specs.Reading.{tree}
 use Rattle.meaning.specs.Rules.{Bytes}
 use Rattle.grammar.specs.Trees.{count, Program}
@@ -23,7 +24,7 @@ use Rattle.report.proofs.Reporting.{first-line}
 use Rattle.stages.specs.Parts.{output, Part, in-text, start-of}
 use Rattle.stages.specs.Stage.{Outcome, on, stop, Refuse, stops, goes, given, passed, read, fault}
 use Rattle.output.specs.declared.OutputRead.{OutputRead}
-use Rattle.output.specs.Output.{Report, facts, claim-none, claim-unknown, most-bytes, Opened, Opening, refuses, opens, Facts, Closing, closes, stray, Behind, OutputStage}
+use Rattle.output.specs.Output.{Report, facts, claim-none, claim-unknown, Opened, Opening, refuses, opens, Facts, Closing, closes, stray, Behind, OutputStage}
 use Rattle.output.specs.Answers.{fields, ReadsOutput}
 use Rattle.output.specs.Tables.{Tables, FactsHeld, FillsOutput}
 
@@ -59,7 +60,7 @@ module _ (text : Bytes) where
   opening-refusal : {n : ℕ} {p : Part} → Opening text (stop n p) → Refusal text n p
   opening-refusal (refuses place h) = record { number = omega arith; within = refl; inside = reported-inside text h .place }
 
-  size-refusal : {n : ℕ} {p : Part} → Refuse 1 (start-of output) (most-bytes < length text) (stop n p) → Refusal text n p
+  size-refusal : {n : ℕ} {p : Part} → Refuse 1 (start-of output) (most-text < length text) (stop n p) → Refusal text n p
   size-refusal (given h) = record { number = omega arith; within = refl; inside = omega arith }
 
   facts-inside : {o : Opened} → Opening text (on o) → o .line .start + o .line .len ≤ length text
@@ -80,7 +81,7 @@ module _ (text : Bytes) where
 -- ---- ANSWER: the facts line lies inside the output and is read as the facts, which are not too many
 
 pub record HandedOn (text : Bytes) (line : Place) (fs : Program true) : Type 0 where
-  pub size : length text ≤ most-bytes
+  pub size : length text ≤ most-text
   pub inside : line .start + line .len ≤ length text
   pub read : ReadAs true (part text line) (tree fs)
   pub few : count fs ≤ most-rules true
@@ -101,10 +102,10 @@ module _ (text : Bytes) where
 -- ---- the fields of an answer, and the outcome
 
 -- without a number the word says what is handed on
-abbrev pub Says : Bytes → Place → ℕ → Word → Type 0
-Says text line n Answer = (fs : Program true) × (count fs ≡ n) × OutputStage text (on (facts line fs))
-Says text line n Inconsistent = OutputStage text (on claim-none)
-Says text line n Unknown = OutputStage text (on claim-unknown)
+abbrev pub Says : Bytes → ℕ → Word → Type 0
+Says text n Answer = (line : Place) × (fs : Program true) × (count fs ≡ n) × OutputStage text (on (facts line fs))
+Says text n Inconsistent = OutputStage text (on claim-none)
+Says text n Unknown = OutputStage text (on claim-unknown)
 
 module _ (text : Bytes) (r : OutputRead) (g : ReadsOutput text r) where
   -- a number is that of a refusal
@@ -117,28 +118,27 @@ module _ (text : Bytes) (r : OutputRead) (g : ReadsOutput text r) where
       go (on claim-unknown) s e = absurd (n (ap (λ (x : OutputRead). x .code) e))
       go (stop m p) s e = rw (e, ← (refusal text s .within)) s
 
-  pub output-says : r .code ≡ 0 → Says text (r .line) (r .count) (r .word)
+  pub output-says : r .code ≡ 0 → Says text (r .count) (r .word)
   output-says z = go (g .outcome) (g .stage) (g .so)
     where
-      go : (o : Outcome Report) → OutputStage text o → r ≡ fields o → Says text (r .line) (r .count) (r .word)
-      go (on (facts line fs)) s e = rw e (fs, refl, s)
+      go : (o : Outcome Report) → OutputStage text o → r ≡ fields o → Says text (r .count) (r .word)
+      go (on (facts line fs)) s e = rw e (line, fs, refl, s)
       go (on claim-none) s e = rw e s
       go (on claim-unknown) s e = rw e s
       go (stop m p) s e = absurd (let k = refusal text s .number in let q : r .code ≡ m = ap (λ (x : OutputRead). x .code) e in omega arith)
 
 -- ANSWER: the facts of its line, which the tables hold
-pub record Answering (program text : Bytes) (line : Place) (n : ℕ) (t u : Tables) : Type 0 where
+pub record Answering (program text : Bytes) (n : ℕ) (t u : Tables) : Type 0 where
+  pub line : Place
   pub tree-of : Program true
   pub stage : OutputStage text (on (facts line tree-of))
   pub held : FactsHeld program text line tree-of t n u
 
-pub output-answers : (program text : Bytes) (t : Tables) (r : OutputRead) (u : Tables) → FillsOutput program text t r u → r .code ≡ 0 → r .word ≡ Answer → Answering program text (r .line) (r .count) t u
+pub output-answers : (program text : Bytes) (t : Tables) (r : OutputRead) (u : Tables) → FillsOutput program text t r u → r .code ≡ 0 → r .word ≡ Answer → Answering program text (r .count) t u
 output-answers program text t r u g z w = go (g .given .outcome) refl
   where
-    go : (o : Outcome Report) → g .given .outcome ≡ o → Answering program text (r .line) (r .count) t u
-    go (on (facts line fs)) e =
-        let q : r .line ≡ line = ap (λ (x : OutputRead). x .line) (g .given .so ∙ ap fields e) in
-        record { tree-of = fs; stage = rw q (rw e at (g .given .stage)); held = rw q (g .filled line fs e) }
+    go : (o : Outcome Report) → g .given .outcome ≡ o → Answering program text (r .count) t u
+    go (on (facts line fs)) e = record { line = line; tree-of = fs; stage = rw e at (g .given .stage); held = g .filled line fs e }
     go (on claim-none) e = absurd (let q : r .word ≡ Inconsistent = ap (λ (x : OutputRead). x .word) (g .given .so ∙ ap fields e) in let y : _≡_ {A = ℕ} 0 1 = cc in omega arith)
     go (on claim-unknown) e = absurd (let q : r .word ≡ Unknown = ap (λ (x : OutputRead). x .word) (g .given .so ∙ ap fields e) in let y : _≡_ {A = ℕ} 0 1 = cc in omega arith)
     go (stop m p) e = absurd (let k = refusal text (rw e at (g .given .stage)) .number in let q : r .code ≡ m = ap (λ (x : OutputRead). x .code) (g .given .so ∙ ap fields e) in omega arith)

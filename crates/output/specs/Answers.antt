@@ -16,15 +16,15 @@ use Rattle.output.specs.Output.{Report, facts, claim-none, claim-unknown
 -- ---- fields that an answer does not name are zero, or the word that claims nothing
 
 abbrev pub refused : ℕ → Place → OutputRead
-refused code place = record { code = code; place = place; word = Unknown; line = nowhere; count = 0 }
+refused code place = record { code = code; place = place; word = Unknown; count = 0 }
 
-abbrev pub reported : Word → Place → ℕ → OutputRead
-reported word line count = record { code = 0; place = nowhere; word = word; line = line; count = count }
+abbrev pub reported : Word → ℕ → OutputRead
+reported word count = record { code = 0; place = nowhere; word = word; count = count }
 
 abbrev pub report-fields : Report → OutputRead
-report-fields (facts line fs) = reported Answer line (count fs)
-report-fields claim-none = reported Inconsistent nowhere 0
-report-fields claim-unknown = reported Unknown nowhere 0
+report-fields (facts line fs) = reported Answer (count fs)
+report-fields claim-none = reported Inconsistent 0
+report-fields claim-unknown = reported Unknown 0
 
 abbrev pub fields : Outcome Report → OutputRead
 fields (on x) = report-fields x

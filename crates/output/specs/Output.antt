@@ -5,6 +5,8 @@ use Prim.Native.Nat.{ℕ, _+_, _<_}
 use lib.ListN.{length}
 use Rattle.lexis.specs.declared.Place.{Place}
 use Rattle.lexis.specs.Tokens.{part}
+use Rattle.lexis.specs.Sizes.{most-text}
+use Rattle.lexis.specs.Places.{place-from}
 use Rattle.meaning.specs.Values.{Value}
 use Rattle.meaning.specs.Rules.{Bytes, Fact}
 use Rattle.grammar.specs.Trees.{Program}
@@ -28,9 +30,6 @@ pub data Report : Type 0 where
 abbrev pub candidate : Program true → List (Fact Value)
 candidate fs = facts-for fs
 
-abbrev pub most-bytes : ℕ
-most-bytes = 65_536
-
 -- ---- the lines as far as the report: 2 where it is missing, out of place, or lacks its facts line
 
 -- the report's word; with ANSWER the facts line; where the lines behind the report begin
@@ -47,7 +46,7 @@ pub data Opening (text : Bytes) : Outcome Opened → Type 0 where
 
 -- a place on a line, as a place of the text that has the line
 abbrev pub on-line : Place → Place → Place
-on-line line p = record { start = line .start + p .start; len = p .len }
+on-line line p = place-from (line .start + p .start) (p .len)
 
 abbrev pub Facts : Bytes → Place → Stage (Program true)
 Facts text line = let bytes = part text line in Reads (language true) (λ p. in-text output (on-line line p)) (end-of bytes) (placed-from true bytes 0)
@@ -67,6 +66,6 @@ Behind text Unknown line next = Closing claim-unknown text next
 
 abbrev pub OutputStage : Bytes → Stage Report
 OutputStage text =
-    Refuse 1 (start-of output) (most-bytes < length text) ⟫ λ u.
+    Refuse 1 (start-of output) (most-text < length text) ⟫ λ u.
     Opening text ⟫ λ o.
     Behind text (o .word) (o .line) (o .next)

@@ -5,13 +5,14 @@ use mathlib.Core.List.{List}
 use Prim.Native.Nat.{ℕ, _≤_}
 use lib.ListN.{length}
 use Rattle.lexis.specs.declared.Place.{Place}
+use Rattle.lexis.specs.Sizes.{most-text}
 use Rattle.meaning.specs.Rules.{Bytes}
 use Rattle.grammar.specs.Trees.{Program}
 use Rattle.stages.specs.Stage.{on, Stage}
 use Rattle.rows.specs.Growth.{Room}
 use Rattle.factline.specs.Lines.{Filled}
 use Rattle.output.specs.declared.OutputRead.{OutputRead}
-use Rattle.output.specs.Output.{Report, most-bytes, OutputStage}
+use Rattle.output.specs.Output.{Report, OutputStage}
 use Rattle.output.specs.Answers.{GivenBy}
 
 -- names; the facts' rows; their predicates; where each starts in the output, and how long it is
@@ -27,7 +28,7 @@ tables names facts predicates starts lengths = record { names = names; facts = f
 
 -- there is room for all facts of a line; and for as many names as the output has bytes, where it is within its size
 pub record Lent (program output : Bytes) (t : Tables) : Type 0 where
-  pub room : length output ≤ most-bytes → Room program output (t .names) (length output)
+  pub room : length output ≤ most-text → Room program output (t .names) (length output)
   pub facts-long : 9_216 ≤ length (t .facts)
   pub predicates-long : 1_024 ≤ length (t .predicates)
   pub starts-long : 1_024 ≤ length (t .starts)

@@ -1,14 +1,16 @@
 // The solver's output as a whole: its report, the facts line behind ANSWER, and the lines behind the report.
 ghost use mathlib.Core.Path.{_≡_};
 ghost use Prim.Native.Nat.{_+_, _≤_};
+ghost use Rattle.lexis.specs.Sizes.{most-text};
 ghost use Rattle.report.specs.declared.word.Word.the-variants.{Answer};
 ghost use Rattle.factline.specs.Lines.{Fillable};
-ghost use Rattle.output.specs.Output.{most-bytes, on-line, Behind};
+ghost use Rattle.output.specs.Output.{on-line, Behind};
 ghost use Rattle.output.specs.Answers.{refused, reported, Closes};
 ghost use Rattle.output.specs.Tables.{tables, Lent, Fills, FillsOutput};
 use factline::line::read_line;
 use lexis::NOWHERE;
 use lexis::Place;
+use lexis::place_from;
 use lexis::sizes::MOST_TEXT;
 use report::around::Found;
 use report::around::out_of_place;
@@ -22,12 +24,11 @@ const TOO_LONG: u8 = 1;
 const OUT_OF_PLACE: u8 = 2;
 
 // What an output says. A refusal has its code and its place; else the code is 0, the place is empty, and the other fields hold
-// the report's word, and with ANSWER the facts line and the number of its facts.
+// the report's word, and with ANSWER the number of the facts on its line.
 pub struct OutputRead {
     pub code: u8,
     pub place: Place,
     pub word: Word,
-    pub line: Place,
     pub count: usize,
 }
 
@@ -38,32 +39,27 @@ fn refused(code: u8, place: Place) -> OutputRead
         code,
         place,
         word: Word::Unknown,
-        line: NOWHERE,
         count: 0,
     }
 }
 
-fn reported(word: Word, line: Place, count: usize) -> OutputRead
-    ensures { λ r. ⌜ r ≡ reported word line count ⌝ }
+fn reported(word: Word, count: usize) -> OutputRead
+    ensures { λ r. ⌜ r ≡ reported word count ⌝ }
 {
     OutputRead {
         code: 0,
         place: NOWHERE,
         word,
-        line,
         count,
     }
 }
 
 // A place on a line, as a place of the output.
 fn on_line(line: Place, place: Place) -> Place
-    requires { ⌜ line .start + place .start ≤ most-bytes ⌝ }
+    requires { ⌜ line .start + place .start ≤ most-text ⌝ }
     ensures { λ r. ⌜ r ≡ on-line line place ⌝ }
 {
-    Place {
-        start: line.start + place.start,
-        len: place.len,
-    }
+    place_from(line.start + place.start, place.len)
 }
 
 // What has been read, where each line from `at` on may stand behind the report; else the refusal of the first that may not.
@@ -106,7 +102,7 @@ fn answered<'a>(
         let place = read.place;
         return refused(read.code, on_line(line, place));
     }
-    closed(output, next, reported(Word::Answer, line, read.count))
+    closed(output, next, reported(Word::Answer, read.count))
 }
 
 // The whole output: 1; the leftmost of 2, 3 and 4; or the report, and behind ANSWER the facts line and its facts, which go into
@@ -146,7 +142,7 @@ pub fn read_output<'a>(
             starts,
             lengths,
         ),
-        Word::Inconsistent => closed(output, next, reported(Word::Inconsistent, NOWHERE, 0)),
-        Word::Unknown => closed(output, next, reported(Word::Unknown, NOWHERE, 0)),
+        Word::Inconsistent => closed(output, next, reported(Word::Inconsistent, 0)),
+        Word::Unknown => closed(output, next, reported(Word::Unknown, 0)),
     }
 }

@@ -5,6 +5,7 @@ ghost use Rattle.names.specs.Table.{most-names};
 ghost use Rattle.names.specs.Numbering.{Empty};
 ghost use Rattle.plaintokens.specs.Promise.{Readable};
 ghost use Rattle.plain.specs.Answer.{AnswersPlain, Writes};
+use lexis::NOWHERE;
 use lexis::Place;
 use names::SMALL_TEXT;
 use plaintokens::write_tokens;
@@ -28,12 +29,11 @@ fn write_read(program: &[u8], buffer: &mut [u8]) -> Written
     requires { ⌜ Readable (now program) ⌝ }
     ensures { λ r. ⌜ AnswersPlain (now (program .entry)) (now (buffer .entry)) r (now (buffer .exit)) ⌝ }
 {
-    let place = Place { start: 0, len: 0 };
     if program.len() <= buffer.len() {
         let length = write_tokens(buffer, program);
         return Written {
             code: 0,
-            place,
+            place: NOWHERE,
             length,
         };
     }
@@ -41,14 +41,14 @@ fn write_read(program: &[u8], buffer: &mut [u8]) -> Written
     if buffer.len() < length {
         return Written {
             code: SHORT,
-            place,
+            place: NOWHERE,
             length: 0,
         };
     }
     write_tokens(&mut buffer[0..length], program);
     Written {
         code: 0,
-        place,
+        place: NOWHERE,
         length,
     }
 }

@@ -2,10 +2,11 @@
 use mathlib.Core.Bool.{false}
 use Prim.Native.Nat.{ℕ, _≤_}
 use lib.ListN.{length}
+use Rattle.lexis.specs.Sizes.{most-text}
 use Rattle.meaning.specs.Rules.{Bytes}
 use Rattle.grammar.specs.Trees.{Program}
 use Rattle.plainform.specs.PlainBytes.{ReadAs, plain-bytes}
-use Rattle.plaintokens.specs.Put.{most-text, Put}
+use Rattle.plaintokens.specs.Put.{Put}
 
 -- the text is within its size, and is read as a program
 pub record Readable (text : Bytes) : Type 0 where

@@ -3,13 +3,10 @@ use mathlib.Core.Path.{_≡_}
 use Prim.Native.Nat.{ℕ, _+_, _≤_}
 use lib.ListN.{length}
 use lib.Seq.{sets}
+use Rattle.lexis.specs.Sizes.{most-text}
 use Rattle.meaning.specs.Rules.{Bytes}
 
--- the most bytes of a program; its plain form has no more
-abbrev pub most-text : ℕ
-most-text = 65_536
-
--- bytes from a place on end within that size
+-- bytes from a place on end within a program's size; its plain form has no more
 abbrev pub Room : ℕ → Bytes → Type 0
 Room at bytes = at + length bytes ≤ most-text
 

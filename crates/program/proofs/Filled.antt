@@ -7,6 +7,7 @@ use native.Mathlib.Omega.{arith}
 use lib.Dec.{leb, ltb}
 use lib.ListN.{length}
 use lib.Seq.{take-length}
+use Rattle.lexis.specs.Sizes.{most-text}
 use borrow.Author.Tests.{leb-false, ltb-true, ltb-false, lt-ltb}
 use Rattle.reading.specs.Reading.{_▹_}
 use Rattle.meaning.specs.Sets.{every}
@@ -31,7 +32,6 @@ use Rattle.names.specs.Numbering.{Empty}
 use Rattle.rows.specs.Growth.{Source, Grows}
 use Rattle.rows.proofs.Growth.{grows-none, grows-then, room-after, keeps-rules}
 use Rattle.program.specs.declared.put.RulePut.{RulePut}
-use Rattle.program.specs.Stage.{most-text}
 use Rattle.program.specs.Puts.{Puttable, Owns, Stands}
 use Rattle.program.specs.Rules.{rules-size, literals-size, Fillable, FillsRules}
 use Rattle.program.proofs.Growing.{Agrees, later-agrees, grown-owns, same-rule, grown-row}

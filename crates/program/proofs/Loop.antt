@@ -21,20 +21,21 @@ use Rattle.grammar.specs.Trees.{empty, _then_, count, Rule as Tree, Program}
 use Rattle.grammar.specs.Sizes.{too-many, programs}
 use Rattle.grammar.specs.Abstraction.{rule-for, rules-for}
 use Rattle.lexis.specs.Places.{nowhere}
+use Rattle.lexis.specs.Sizes.{most-text}
 use Rattle.syntax.specs.Text.{placed-from, end-of}
 use Rattle.syntax.specs.Ahead.{firsts}
 use Rattle.syntax.specs.Rules.{behind-rules, RulePlace}
 use Rattle.syntax.proofs.Lists.{too-many-next}
 use Rattle.syntax.proofs.Programs.{reading-of}
 use Rattle.rulesafety.specs.declared.unbound.Unbound.{Unbound as Found}
-use Rattle.rulesafety.specs.Unbound.{FirstUnbound}
+use Rattle.rulesafety.specs.Unbound.{no-unbound, FirstUnbound}
 use Rattle.stages.specs.Parts.{program, in-text, start-of}
 use Rattle.stages.specs.Stage.{on, stop, stops, goes, given, passed, first, without, Reads}
 use Rattle.stages.proofs.Unique.{on-stop, on-inj}
 use Rattle.program.specs.declared.put.RuleStart.{RuleStart}
 use Rattle.program.specs.declared.put.RulePut.{RulePut}
 use Rattle.program.specs.Unbound.{Tokens, dots, met-behind, Unbound}
-use Rattle.program.specs.Stage.{most-text, tokens-of, token-part, ProgramStage}
+use Rattle.program.specs.Stage.{tokens-of, token-part, ProgramStage}
 use Rattle.program.specs.Puts.{Puttable, Stands, PutsRule, read, ended, stopped}
 use Rattle.program.specs.Rules.{Fillable, FillsRules}
 use Rattle.program.specs.declared.ProgramRead.{ProgramRead}
@@ -102,7 +103,7 @@ module _ {text output : Bytes} {names rules literals names′ rules′ literals�
 -- ---- a turn of the loop
 
 module _ (text output : Bytes) (names₀ rules₀ literals₀ : List ℕ) (fits : length text ≤ most-text) (asked : Fillable text output names₀ rules₀ literals₀) where
-  pub going-start : (variables : List ℕ) → length variables ≡ 32 → Going text output names₀ rules₀ literals₀ (record { found = false; place = nowhere }) 0 0 names₀ variables rules₀ literals₀
+  pub going-start : (variables : List ℕ) → length variables ≡ 32 → Going text output names₀ rules₀ literals₀ no-unbound 0 0 names₀ variables rules₀ literals₀
   unfolding count rules-for dots seen unplaced
   going-start variables wide = record { few = omega arith; trees = empty; size = refl; walks = refl; before = []; whole = refl; new = refl; ended = refl; remembered = λ more. remembered-start more (tokens-of text) (end-of text); names-long = refl; variables-long = wide; filled = filled-start text output names₀ rules₀ literals₀ asked fits }
 

@@ -23,7 +23,7 @@ use Rattle.grammar.specs.Sizes.{programs}
 use Rattle.lexis.specs.Places.{nowhere}
 use Rattle.syntax.specs.Ahead.{ends-rule, firsts}
 use Rattle.rulesafety.specs.declared.unbound.Unbound.{Unbound as Found}
-use Rattle.rulesafety.specs.Unbound.{FirstUnbound, found, all-bound}
+use Rattle.rulesafety.specs.Unbound.{no-unbound, FirstUnbound, found, all-bound}
 use Rattle.program.specs.Unbound.{Tokens, dots, met-behind, Unbound}
 use Rattle.program.proofs.Segments.{FirstAt, first-of, number-of-first, first-order, standing, first-standing, to-dot, before-or-behind, first-inside}
 
@@ -64,9 +64,9 @@ behind {A} (a ∷ l) m (b ∷ l′) m′ e h = go (behind l m l′ m′)
 
 pub data Remembered (rules : List (Rule Value)) (ts : Tokens) (end : Place) (n : ℕ) (u : Found) : Type 0 where
   first-case : (i : ℕ) → Unbound rules ts i 5 → ((j m : ℕ) → Unbound rules ts j m → i ≤ j) → u ≡ record { found = true; place = place-at end ts i } → Remembered rules ts end n u
-  no-case : ((j m : ℕ) → Unbound rules ts j m → n ≤ j) → u ≡ record { found = false; place = nowhere } → Remembered rules ts end n u
+  no-case : ((j m : ℕ) → Unbound rules ts j m → n ≤ j) → u ≡ no-unbound → Remembered rules ts end n u
 
-pub remembered-start : (rules : List (Rule Value)) (ts : Tokens) (end : Place) → Remembered rules ts end 0 (record { found = false; place = nowhere })
+pub remembered-start : (rules : List (Rule Value)) (ts : Tokens) (end : Place) → Remembered rules ts end 0 no-unbound
 remembered-start rules ts end = no-case (λ j m x. omega arith) refl
 
 -- a rule behind the tokens `before`, which are those of the rules rs
@@ -155,7 +155,7 @@ module _ (rs more : List (Rule Value)) (rule : Rule Value) (before ahead : Token
         first j (inl c) = omega (arith, c .same, first-order [] ahead (f .0) (c .position) x (c .variable) _ (c .place) at-x (c .first) (not-lower j c))
         first j (inr l) = omega (arith, first-inside [] ahead (f .0) x _ at-x)
 
-    remember-bound : (r : Found) → ((x : ℕ) → x < length (firsts [] ahead) → bound rule x ≡ true) → r ≡ record { found = false; place = nowhere } → Remembered rules ts end (length before + length (to-dot ahead)) r
+    remember-bound : (r : Found) → ((x : ℕ) → x < length (firsts [] ahead) → bound rule x ≡ true) → r ≡ no-unbound → Remembered rules ts end (length before + length (to-dot ahead)) r
     remember-bound r all e = no-case (λ j m c. later j (in-rule j m c (none-before j m c))) e
       where
         later : (j : ℕ) → InRule j ⊎ (length before + length (to-dot ahead) ≤ j) → length before + length (to-dot ahead) ≤ j

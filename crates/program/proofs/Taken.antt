@@ -9,6 +9,7 @@ use lib.Dec.{ltb}
 use lib.ListN.{length}
 use borrow.Author.Tests.{ltb-true, ltb-false}
 use Rattle.lexis.specs.declared.Place.{Place}
+use Rattle.lexis.specs.Sizes.{most-text}
 use Rattle.reading.specs.Reading.{Marked, unplaced, seen, Answer, tree, refused, Reading}
 use Rattle.meaning.specs.Rules.{Bytes}
 use Rattle.grammar.specs.Tokens.{Token}
@@ -23,7 +24,7 @@ use Rattle.stages.specs.Stage.{Outcome, on, stop, Stage, stops, goes, _⟫_, Is
 use Rattle.stages.proofs.Unique.{on-stop, on-inj}
 use Rattle.program.specs.declared.ProgramRead.{ProgramRead}
 use Rattle.program.specs.Unbound.{Unbound}
-use Rattle.program.specs.Stage.{most-text, tokens-of, token-part, ProgramStage}
+use Rattle.program.specs.Stage.{tokens-of, token-part, ProgramStage}
 use Rattle.program.specs.Rules.{FillsRules}
 use Rattle.program.specs.Answer.{fields, ReadsProgram}
 

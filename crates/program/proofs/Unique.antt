@@ -4,6 +4,7 @@ use mathlib.Core.Bool.{false}
 use mathlib.Core.List.{List}
 use Prim.Native.Nat.{ℕ, _<_}
 use lib.ListN.{length}
+use Rattle.lexis.specs.Sizes.{most-text}
 use Rattle.meaning.specs.Rules.{Bytes}
 use Rattle.grammar.specs.Sizes.{programs}
 use Rattle.grammar.specs.Abstraction.{rules-for}
@@ -14,7 +15,7 @@ use Rattle.stages.specs.Stage.{on}
 use Rattle.stages.proofs.Unique.{One, then-one, is-one, refuse-one, first-one, reads-one}
 use Rattle.program.specs.declared.ProgramRead.{ProgramRead}
 use Rattle.program.specs.Unbound.{Unbound}
-use Rattle.program.specs.Stage.{most-text, tokens-of, token-part, ProgramStage}
+use Rattle.program.specs.Stage.{tokens-of, token-part, ProgramStage}
 use Rattle.program.specs.Answer.{fields, ReadsProgram}
 
 pub program-one : (text : Bytes) → One (ProgramStage text)

@@ -5,7 +5,6 @@ use mathlib.Core.Option.{some}
 use mathlib.Core.List.{List, []}
 use Prim.Native.Nat.{ℕ, _+_, _-_, _*_, _≤_, _<_}
 use lib.ListN.{length}
-use Rattle.lexis.specs.Places.{nowhere}
 use Rattle.reading.specs.Reading.{tree, refused}
 use Rattle.meaning.specs.Sets.{In}
 use Rattle.meaning.specs.Rules.{Bytes}
@@ -27,7 +26,7 @@ use Rattle.tables.specs.Stored.{Kept}
 use Rattle.rows.specs.Growth.{Grows}
 use Rattle.atoms.specs.declared.cursor.Cursor.{Cursor}
 use Rattle.clauses.specs.Clauses.{ReadyRule}
-use Rattle.rulesafety.specs.Unbound.{FirstUnbound}
+use Rattle.rulesafety.specs.Unbound.{no-unbound, FirstUnbound}
 use Rattle.program.specs.declared.put.RuleStart.{RuleStart}
 use Rattle.program.specs.declared.put.RulePut.{RulePut}
 
@@ -70,4 +69,4 @@ pub data PutsRule (program output : Bytes) (names rules literals : List ℕ) (s 
   stopped : 2 ≤ r .progress .code → ((h : RulePlace false (s .over)) → behind-rules false program (h .rules) (s .at) ≡ refused (r .progress .code) (r .progress .place)) → PutsRule program output names rules literals s r names′ rules′ literals′
 
 abbrev pub refusedPut : Progress → Bool → RulePut
-refusedPut p e = record { progress = p; ended = e; unbound = record { found = false; place = nowhere } }
+refusedPut p e = record { progress = p; ended = e; unbound = no-unbound }

@@ -4,6 +4,7 @@ use mathlib.Core.Bool.{false}
 use mathlib.Core.List.{List}
 use Prim.Native.Nat.{ℕ, _*_, _≤_}
 use lib.ListN.{length}
+use Rattle.lexis.specs.Sizes.{most-text}
 use Rattle.meaning.specs.Rules.{Bytes}
 use Rattle.grammar.specs.Trees.{count, Program}
 use Rattle.grammar.specs.Abstraction.{rules-for}
@@ -16,7 +17,6 @@ use Rattle.tables.specs.Rows.{rules-of}
 use Rattle.tables.specs.WellFormed.{RuleTable}
 use Rattle.tables.specs.Stored.{Kept}
 use Rattle.rows.specs.Growth.{Room, Grows}
-use Rattle.program.specs.Stage.{most-text}
 
 -- the numbers that the tables have for 256 rules
 abbrev pub rules-size : ℕ

@@ -2,6 +2,7 @@
 use mathlib.Core.Bool.{false}
 use Prim.Native.Nat.{ℕ, _<_}
 use lib.ListN.{length}
+use Rattle.lexis.specs.Sizes.{most-text}
 use Rattle.reading.specs.Faults.{place-at}
 use Rattle.meaning.specs.Rules.{Bytes}
 use Rattle.grammar.specs.Trees.{Program}
@@ -11,9 +12,6 @@ use Rattle.syntax.specs.Text.{placed-from, end-of}
 use Rattle.stages.specs.Parts.{Part, program, in-text, start-of}
 use Rattle.stages.specs.Stage.{on, Stage, _⟫_, Is, Refuse, First, Reads}
 use Rattle.program.specs.Unbound.{Tokens, Unbound}
-
-abbrev pub most-text : ℕ
-most-text = 65_536
 
 -- the tokens of a program's text
 abbrev pub tokens-of : Bytes → Tokens

@@ -3,7 +3,7 @@ ghost use mathlib.Core.Path.{_≡_};
 ghost use mathlib.Core.Bool.{cond};
 ghost use Prim.Native.Nat.{_≤_};
 ghost use lib.ListN.{length};
-ghost use Rattle.program.specs.Stage.{most-text};
+ghost use Rattle.lexis.specs.Sizes.{most-text};
 ghost use Rattle.program.specs.Rules.{Fillable};
 ghost use Rattle.program.specs.Answer.{refusal, readRules, ReadsProgram};
 use crate::put::RuleStart;
@@ -14,6 +14,7 @@ use lexis::places::PLACE;
 use lexis::sizes::MOST_RULES;
 use lexis::sizes::MOST_TEXT;
 use lexis::sizes::MOST_VARIABLES;
+use rulesafety::unbound::NO_UNBOUND;
 use rulesafety::unbound::Unbound;
 
 pub mod put;
@@ -80,10 +81,7 @@ fn read_rules<'a>(
     ensures { λ r. ⌜ ReadsProgram (now (program .entry)) (now (output .entry)) (now (names .entry)) (now (rules .entry)) (now (literals .entry)) r (now (names .exit)) (now (rules .exit)) (now (literals .exit)) ⌝ }
 {
     let mut places = [0u32; MOST_VARIABLES * PLACE];
-    let mut unbound = Unbound {
-        found: false,
-        place: NOWHERE,
-    };
+    let mut unbound = NO_UNBOUND;
     let mut at = 0;
     let mut count = 0;
     loop {

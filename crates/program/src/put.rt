@@ -3,8 +3,8 @@ ghost use mathlib.Core.Path.{_≡_};
 ghost use Rattle.program.specs.Puts.{Puttable, PutsRule, refusedPut};
 use atoms::cursor::Cursor;
 use clauses::clause::rule_at;
-use lexis::NOWHERE;
 use rulesafety::rule_row::put_rule_row;
+use rulesafety::unbound::NO_UNBOUND;
 use rulesafety::unbound::Unbound;
 use rulesafety::unbound::first_unbound;
 use syntax::token::Progress;
@@ -31,10 +31,7 @@ fn none_put(progress: Progress, ended: bool) -> RulePut
     RulePut {
         progress,
         ended,
-        unbound: Unbound {
-            found: false,
-            place: NOWHERE,
-        },
+        unbound: NO_UNBOUND,
     }
 }
 

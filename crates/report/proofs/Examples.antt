@@ -2,11 +2,12 @@
 use Prim.Native.Nat.{ℕ}
 use mathlib.Core.Path.{_≡_, refl, subst}
 use mathlib.Core.List.{List, [], _∷_, _++_, map, head-eq-of-cons-eq, tail-eq-of-cons-eq}
+use Rattle.lexis.specs.Places.{nowhere, place-from}
 use Rattle.report.specs.declared.word.Word.the-variants.{Answer, Inconsistent, Unknown}
 use Rattle.report.specs.declared.around.Found.{Found}
 use Rattle.report.specs.declared.around.Found.the-variants.{Nothing, Line}
 use Rattle.report.specs.declared.Report.{Report}
-use Rattle.report.specs.Lines.{placeOf, linesAt}
+use Rattle.report.specs.Lines.{linesAt}
 use Rattle.report.specs.Around.{OutOfPlace}
 use Rattle.report.specs.Word.{spelling, startsWith}
 use Rattle.report.specs.Report.{refused, found, Reported}
@@ -24,34 +25,34 @@ fact = 97 ∷ 46 ∷ []
 abbrev examples : List Example
 examples =
     -- no report: an empty output, an empty line, a comment with no newline
-    record { output = []; report = refused (placeOf 0 0); behind = Nothing } ∷
-    record { output = 10 ∷ []; report = refused (placeOf 1 0); behind = Nothing } ∷
-    record { output = 37 ∷ []; report = refused (placeOf 1 0); behind = Nothing } ∷
+    record { output = []; report = refused (place-from 0 0); behind = Nothing } ∷
+    record { output = 10 ∷ []; report = refused (place-from 1 0); behind = Nothing } ∷
+    record { output = 37 ∷ []; report = refused (place-from 1 0); behind = Nothing } ∷
     -- ANSWER with no second line, without its newline and with it
-    record { output = spelling Answer; report = refused (placeOf 6 0); behind = Line (placeOf 0 6) } ∷
-    record { output = spelling Answer ++ (10 ∷ []); report = refused (placeOf 7 0); behind = Line (placeOf 0 6) } ∷
+    record { output = spelling Answer; report = refused (place-from 6 0); behind = Line (place-from 0 6) } ∷
+    record { output = spelling Answer ++ (10 ∷ []); report = refused (place-from 7 0); behind = Line (place-from 0 6) } ∷
     -- an empty facts line, and a blank one with no newline
-    record { output = spelling Answer ++ (10 ∷ 10 ∷ []); report = found Answer (placeOf 7 0) 8; behind = Nothing } ∷
-    record { output = spelling Answer ++ (10 ∷ 32 ∷ []); report = found Answer (placeOf 7 1) 8; behind = Nothing } ∷
+    record { output = spelling Answer ++ (10 ∷ 10 ∷ []); report = found Answer (place-from 7 0) 8; behind = Nothing } ∷
+    record { output = spelling Answer ++ (10 ∷ 32 ∷ []); report = found Answer (place-from 7 1) 8; behind = Nothing } ∷
     -- a comment, an empty line, `ANSWERS y`, the facts, a comment
     record {
       output = 37 ∷ 120 ∷ 10 ∷ 10 ∷ (spelling Answer ++ (83 ∷ 32 ∷ 121 ∷ 10 ∷ (fact ++ (10 ∷ 37 ∷ []))));
-      report = found Answer (placeOf 14 2) 17;
+      report = found Answer (place-from 14 2) 17;
       behind = Nothing;
     } ∷
     -- a report in column 1, and a line of a lone carriage return before a report
-    record { output = 32 ∷ spelling Answer ++ (10 ∷ []); report = refused (placeOf 0 7); behind = Line (placeOf 0 7) } ∷
-    record { output = 13 ∷ 10 ∷ spelling Unknown; report = refused (placeOf 0 1); behind = Line (placeOf 0 1) } ∷
+    record { output = 32 ∷ spelling Answer ++ (10 ∷ []); report = refused (place-from 0 7); behind = Line (place-from 0 7) } ∷
+    record { output = 13 ∷ 10 ∷ spelling Unknown; report = refused (place-from 0 1); behind = Line (place-from 0 1) } ∷
     -- a fact behind UNKNOWN
-    record { output = spelling Unknown ++ (10 ∷ (fact ++ (10 ∷ []))); report = found Unknown (placeOf 0 0) 8; behind = Line (placeOf 8 2) } ∷
+    record { output = spelling Unknown ++ (10 ∷ (fact ++ (10 ∷ []))); report = found Unknown nowhere 8; behind = Line (place-from 8 2) } ∷
     -- a second report
     record {
       output = spelling Answer ++ (10 ∷ (fact ++ (10 ∷ (spelling Answer ++ (10 ∷ [])))));
-      report = found Answer (placeOf 7 2) 10;
-      behind = Line (placeOf 10 6);
+      report = found Answer (place-from 7 2) 10;
+      behind = Line (place-from 10 6);
     } ∷
     -- an empty line and a line of blanks behind INCONSISTENT
-    record { output = spelling Inconsistent ++ (10 ∷ 10 ∷ 32 ∷ 9 ∷ []); report = found Inconsistent (placeOf 0 0) 13; behind = Line (placeOf 14 2) } ∷
+    record { output = spelling Inconsistent ++ (10 ∷ 10 ∷ 32 ∷ 9 ∷ []); report = found Inconsistent nowhere 13; behind = Line (place-from 14 2) } ∷
     []
 
 abbrev answered : Example → Example

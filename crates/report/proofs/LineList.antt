@@ -14,14 +14,15 @@ use Rattle.lexis.specs.Run.{inLine, prefixLen}
 use Rattle.lexis.proofs.Prefix.{prefix-nil, prefix-more, prefix-none}
 use Rattle.lexis.proofs.Every.{prefix-inside}
 use Rattle.lexis.specs.Tokens.{part}
-use Rattle.report.specs.Lines.{placeOf, longer, linesAt, linesFrom, lineEnd, nextLine, lineAt}
+use Rattle.lexis.specs.Places.{place-from}
+use Rattle.report.specs.Lines.{longer, linesAt, linesFrom, lineEnd, nextLine, lineAt}
 
 pub lines-nil : (at : ℕ) → linesAt at [] ≡ []
 unfolding linesAt
 lines-nil at = refl
 
 module _ (at b : ℕ) (rest : List ℕ) where
-  pub lines-newline : eqb b 10 ≡ true → linesAt at (b ∷ rest) ≡ placeOf at 0 ∷ linesAt (suc at) rest
+  pub lines-newline : eqb b 10 ≡ true → linesAt at (b ∷ rest) ≡ place-from at 0 ∷ linesAt (suc at) rest
   unfolding linesAt
   lines-newline e = rw e
 
@@ -40,7 +41,7 @@ module _ (b : ℕ) where
 
 -- a line of n bytes at a place, and the lines behind it: `rest` stands behind the line's first byte, or behind its newline
 abbrev unrolled : ℕ → ℕ → List ℕ → List Place
-unrolled at n rest = placeOf at n ∷ linesAt (suc at + n) (drop n rest)
+unrolled at n rest = place-from at n ∷ linesAt (suc at + n) (drop n rest)
 
 longer-none : (at : ℕ) → longer at (linesAt (suc at) []) ≡ unrolled at (suc (prefixLen inLine [])) []
 longer-none at = rw (lines-nil (suc at), lines-nil (suc at + suc (prefixLen inLine [])), prefix-nil inLine)
@@ -85,12 +86,12 @@ behind-newline text end = go (ltb end (length text)) refl
     go true e = rw e
     go false e = rw e (lines-none text (end + 1) (omega (arith, ltb-false end (length text) e)) ∙ sym (lines-none text (length text) (omega arith)))
 
-unrolled-at : (at : ℕ) (s : List ℕ) → 0 < length s → linesAt at s ≡ placeOf at (prefixLen inLine s) ∷ linesAt (suc at + prefixLen inLine s) (drop (suc (prefixLen inLine s)) s)
+unrolled-at : (at : ℕ) (s : List ℕ) → 0 < length s → linesAt at s ≡ place-from at (prefixLen inLine s) ∷ linesAt (suc at + prefixLen inLine s) (drop (suc (prefixLen inLine s)) s)
 unrolled-at at [] h = absurd (let z : ⊥ = omega arith in z)
 unrolled-at at (b ∷ rest) h = first-line at b rest
 
 -- the line that starts at a place, and the lines from the next one on
-pub lines-more : (text : List ℕ) (at : ℕ) → at < length text → linesFrom text at ≡ placeOf at (lineEnd text at - at) ∷ linesFrom text (nextLine text (lineEnd text at))
+pub lines-more : (text : List ℕ) (at : ℕ) → at < length text → linesFrom text at ≡ place-from at (lineEnd text at - at) ∷ linesFrom text (nextLine text (lineEnd text at))
 lines-more text at h =
     let n = prefixLen inLine (drop at text) in
     let len : lineEnd text at - at ≡ n = omega arith in
@@ -110,14 +111,14 @@ module _ (text line : List ℕ) (at : ℕ) (e : line ≡ part text (lineAt text 
   pub its-end : at + length line ≡ lineEnd text at
   its-end = omega (arith, its-length)
 
-  pub its-bytes : part text (placeOf at (length line)) ≡ line
-  its-bytes = ap (λ (n : ℕ). part text (placeOf at n)) its-length ∙ sym e
+  pub its-bytes : part text (place-from at (length line)) ≡ line
+  its-bytes = ap (λ (n : ℕ). part text (place-from at n)) its-length ∙ sym e
 
   module _ (h : at < length text) where
     pub its-end-inside : at + length line ≤ length text
     its-end-inside = omega (arith, its-end, end-inside text at h)
 
-    pub lines-its : linesFrom text at ≡ placeOf at (length line) ∷ linesFrom text (nextLine text (at + length line))
+    pub lines-its : linesFrom text at ≡ place-from at (length line) ∷ linesFrom text (nextLine text (at + length line))
     lines-its = rw (its-end, its-length) (lines-more text at h)
 
 -- the line behind a line begins inside the text, and further on
@@ -139,10 +140,10 @@ less-left text at h end f next n = go (ltb end (length text)) refl
 
 -- where there is a line, it is the one that starts there, and the others begin behind it
 pub lines-cons : (text : List ℕ) (at : ℕ) (l : Place) (ls : List Place) → linesFrom text at ≡ l ∷ ls
-    → (at < length text) × (l ≡ placeOf at (lineEnd text at - at)) × (ls ≡ linesFrom text (nextLine text (lineEnd text at)))
+    → (at < length text) × (l ≡ place-from at (lineEnd text at - at)) × (ls ≡ linesFrom text (nextLine text (lineEnd text at)))
 lines-cons text at l ls e = go (ltb at (length text)) refl
   where
-    go : (t : Bool) → ltb at (length text) ≡ t → (at < length text) × (l ≡ placeOf at (lineEnd text at - at)) × (ls ≡ linesFrom text (nextLine text (lineEnd text at)))
+    go : (t : Bool) → ltb at (length text) ≡ t → (at < length text) × (l ≡ place-from at (lineEnd text at - at)) × (ls ≡ linesFrom text (nextLine text (lineEnd text at)))
     go true b =
         let h = ltb-true at (length text) b in
         let m = lines-more text at h in

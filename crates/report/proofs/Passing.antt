@@ -8,9 +8,10 @@ use lib.Dec.{eqb}
 use lib.ListN.{length, getD}
 use Rattle.lexis.specs.declared.Place.{Place}
 use Rattle.lexis.specs.Tokens.{part}
+use Rattle.lexis.specs.Places.{place-from}
 use Rattle.report.specs.declared.around.Found.{Found}
 use Rattle.report.specs.declared.around.Found.the-variants.{Nothing, Line}
-use Rattle.report.specs.Lines.{placeOf, linesFrom, nextLine, lineAt}
+use Rattle.report.specs.Lines.{linesFrom, nextLine, lineAt}
 use Rattle.report.specs.Around.{isIdle, OutOfPlace, none, some}
 use Rattle.report.proofs.LineList.{lines-none, its-bytes, lines-its}
 
@@ -28,7 +29,7 @@ none-left text at h = none (rw (lines-none text at h) tt)
 -- a loop has the line that starts at a place by its bytes
 module _ (text line : List ℕ) (at : ℕ) (e : line ≡ part text (lineAt text at)) (h : at < length text) where
   abbrev here : Place
-  here = placeOf at (length line)
+  here = place-from at (length line)
 
   pub stop-here : isIdle line ≡ false → OutOfPlace text at (Line here)
   stop-here o =

@@ -9,12 +9,13 @@ use borrow.Author.Tests.{ltb-true, ltb-false}
 use native.Mathlib.Omega.{arith}
 use Rattle.lexis.specs.declared.Place.{Place}
 use Rattle.lexis.specs.Tokens.{part}
+use Rattle.lexis.specs.Places.{nowhere, place-from}
 use Rattle.report.specs.declared.word.Word.{Word}
 use Rattle.report.specs.declared.word.Word.the-variants.{Answer, Inconsistent, Unknown}
 use Rattle.report.specs.declared.Report.{Report}
 use Rattle.report.specs.declared.around.Found.{Found}
 use Rattle.report.specs.declared.around.Found.the-variants.{Nothing, Line}
-use Rattle.report.specs.Lines.{placeOf, linesFrom, nextLine, lineAt}
+use Rattle.report.specs.Lines.{linesFrom, nextLine, lineAt}
 use Rattle.report.specs.Around.{AllIdle, First, OutOfPlace, none, some}
 use Rattle.report.specs.Word.{spelling, startsWith}
 use Rattle.report.specs.Report.{refused, found, Says, endOf, beginning, reported, Reported, missing, stray, says}
@@ -33,7 +34,7 @@ module _ (text : List ℕ) (at : ℕ) where
   pub answer-alone : length text ≤ at → reported text Answer (linesFrom text at) ≡ refused (endOf text)
   answer-alone h = rw (lines-none text at h)
 
-  pub answer-facts : at < length text → (line : List ℕ) → line ≡ part text (lineAt text at) → reported text Answer (linesFrom text at) ≡ found Answer (placeOf at (length line)) (nextLine text (at + length line))
+  pub answer-facts : at < length text → (line : List ℕ) → line ≡ part text (lineAt text at) → reported text Answer (linesFrom text at) ≡ found Answer (place-from at (length line)) (nextLine text (at + length line))
   answer-facts h line e = rw (lines-its text line at e h, beginning-from text (nextLine text (at + length line)) (next-inside text (at + length line)))
 
 -- ---- the first line that may not stand around the report
@@ -85,7 +86,7 @@ module _ (text : List ℕ) {f : Found} (o : OutOfPlace text 0 f) (line : Place) 
     pub report-says : (r : Report) → r ≡ reported text word (linesFrom text next) → Reported text r
     report-says r q = rw (q, n) (says line _ (first-line text 0 o line e .2) word (ap (startsWith (spelling word)) (sym bytes-part) ∙ s))
 
-    pub report-claims : ((ls : List Place) → reported text word ls ≡ found word (placeOf 0 0) (beginning text ls)) → (r : Report) → r ≡ found word (placeOf 0 0) next → Reported text r
+    pub report-claims : ((ls : List Place) → reported text word ls ≡ found word nowhere (beginning text ls)) → (r : Report) → r ≡ found word nowhere next → Reported text r
     report-claims claim r q =
         let h : next ≤ length text = rw n (next-inside text (line .start + line .len)) in
-        report-says r (q ∙ sym (claim (linesFrom text next) ∙ ap (found word (placeOf 0 0)) (beginning-from text next h)))
+        report-says r (q ∙ sym (claim (linesFrom text next) ∙ ap (found word nowhere) (beginning-from text next h)))

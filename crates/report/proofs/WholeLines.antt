@@ -16,7 +16,8 @@ use Rattle.lexis.specs.Tokens.{part}
 use borrow.Author.Tests.{eqb-true, eq-eqb, not-true}
 use Rattle.lexis.proofs.Conjunction.{both}
 use Rattle.lexis.proofs.Every.{every-nil}
-use Rattle.report.specs.Lines.{placeOf, longer, linesAt, lines, InOrder, joined, ended, AreLines}
+use Rattle.lexis.specs.Places.{place-from}
+use Rattle.report.specs.Lines.{longer, linesAt, lines, InOrder, joined, ended, AreLines}
 use Rattle.report.proofs.LineList.{lines-nil, lines-newline, lines-longer, others-in}
 
 ended-newline : (b : ℕ) (rest : List ℕ) → eqb b 10 ≡ true → ended (b ∷ rest) ≡ b ∷ ended rest
@@ -59,10 +60,10 @@ module _ (text : List ℕ) (at b : ℕ) (rest : List ℕ) (e : drop at text ≡ 
       ap (λ (i : ℕ). drop i text) (sym one) ∙ sym (drop-drop 1 at text) ∙ ap (drop 1) e
 
   -- the bytes of a line that starts here: the first of them, and those of a line that starts behind it
-  part-more : (n : ℕ) → part text (placeOf at (suc n)) ≡ b ∷ part text (placeOf (suc at) n)
+  part-more : (n : ℕ) → part text (place-from at (suc n)) ≡ b ∷ part text (place-from (suc at) n)
   part-more n = rw (e, next)
 
-  newline-are : eqb b 10 ≡ true → (ls : List Place) → AreLines text (suc at) rest ls → AreLines text at (b ∷ rest) (placeOf at 0 ∷ ls)
+  newline-are : eqb b 10 ≡ true → (ls : List Place) → AreLines text (suc at) rest ls → AreLines text at (b ∷ rest) (place-from at 0 ∷ ls)
   newline-are q ls h =
       let f = here in
       record {
@@ -81,7 +82,7 @@ module _ (text : List ℕ) (at b : ℕ) (rest : List ℕ) (e : drop at text ≡ 
       }
   longer-are q (l ∷ ls) h =
       let f = here in
-      let same : part text l ≡ part text (placeOf (suc at) (l .len)) = ap (λ (i : ℕ). take (l .len) (drop i text)) (h .in-order .0) in
+      let same : part text l ≡ part text (place-from (suc at) (l .len)) = ap (λ (i : ℕ). take (l .len) (drop i text)) (h .in-order .0) in
       let shift : suc (suc at + l .len) ≡ suc (at + suc (l .len)) = omega arith in
       record {
         in-order = (refl, f, omega (arith, h .in-order .2), subst (λ (i : ℕ). InOrder (length text) i ls) shift (h .in-order .3));
@@ -115,7 +116,7 @@ ended-last b [] = inl refl
 ended-last b (c ∷ more) = inr (omega arith, refl)
 
 module _ (text : List ℕ) (at b : ℕ) (rest : List ℕ) (e : drop at text ≡ b ∷ rest) (ih : (ls : List Place) → AreLines text (suc at) rest ls → ls ≡ linesAt (suc at) rest) where
-  only-newline : (ls : List Place) → AreLines text at (b ∷ rest) (placeOf at 0 ∷ ls) → placeOf at 0 ∷ ls ≡ linesAt at (b ∷ rest)
+  only-newline : (ls : List Place) → AreLines text at (b ∷ rest) (place-from at 0 ∷ ls) → place-from at 0 ∷ ls ≡ linesAt at (b ∷ rest)
   only-newline ls h =
       let first = ended-first b rest in
       let start : 10 ∷ joined text ls ≡ b ∷ first .0 = h .whole ∙ first .1 in
@@ -123,42 +124,42 @@ module _ (text : List ℕ) (at b : ℕ) (rest : List ℕ) (e : drop at text ≡ 
       let q : eqb b 10 ≡ true = eq-eqb b 10 byte in
       let tail : b ∷ ended rest ≡ 10 ∷ joined text ls = sym (ended-newline b rest q) ∙ sym (h .whole) in
       let are-rest : AreLines text (suc at) rest ls = record { in-order = rw (add-zero at) at (h .in-order .3); unbroken = h .unbroken .1; whole = cc } in
-      rw (lines-newline at b rest q) (ap (λ (ms : List Place). placeOf at 0 ∷ ms) (ih ls are-rest))
+      rw (lines-newline at b rest q) (ap (λ (ms : List Place). place-from at 0 ∷ ms) (ih ls are-rest))
 
-  module _ (n : ℕ) (ls : List Place) (h : AreLines text at (b ∷ rest) (placeOf at (suc n) ∷ ls)) where
+  module _ (n : ℕ) (ls : List Place) (h : AreLines text at (b ∷ rest) (place-from at (suc n) ∷ ls)) where
     left : length text - at ≡ suc (length rest)
     left = sym (length-drop at text) ∙ ap length e
 
-    unbroken : (inLine b ≡ true) × (every inLine (part text (placeOf (suc at) n)) ≡ true)
-    unbroken = every-first b (part text (placeOf (suc at) n)) (rw (part-more text at b rest e n) at (h .unbroken .0))
+    unbroken : (inLine b ≡ true) × (every inLine (part text (place-from (suc at) n)) ≡ true)
+    unbroken = every-first b (part text (place-from (suc at) n)) (rw (part-more text at b rest e n) at (h .unbroken .0))
 
-    whole : b ∷ (part text (placeOf (suc at) n) ++ (10 ∷ joined text ls)) ≡ ended (b ∷ rest)
+    whole : b ∷ (part text (place-from (suc at) n) ++ (10 ∷ joined text ls)) ≡ ended (b ∷ rest)
     whole = rw (part-more text at b rest e n) at (h .whole)
 
     other : eqb b 10 ≡ false
     unfolding inLine
     other = not-true (eqb b 10) (unbroken .0)
 
-    only-last : rest ≡ [] → placeOf at (suc n) ∷ ls ≡ linesAt at (b ∷ rest)
+    only-last : rest ≡ [] → place-from at (suc n) ∷ ls ≡ linesAt at (b ∷ rest)
     only-last q =
         let none : n ≡ 0 = omega (arith, left, ap length q, h .in-order .2) in
-        let bytes : part text (placeOf (suc at) n) ≡ [] = rw none in
-        let all : b ∷ (part text (placeOf (suc at) n) ++ (10 ∷ joined text ls)) ≡ b ∷ 10 ∷ [] = whole ∙ rw (q, other) in
+        let bytes : part text (place-from (suc at) n) ≡ [] = rw none in
+        let all : b ∷ (part text (place-from (suc at) n) ++ (10 ∷ joined text ls)) ≡ b ∷ 10 ∷ [] = whole ∙ rw (q, other) in
         let behind : 10 ∷ joined text ls ≡ 10 ∷ [] = rw bytes at (tail-eq-of-cons-eq all) in
         rw (none, joined-none text ls (tail-eq-of-cons-eq behind), lines-longer at b rest other, q, lines-nil (suc at))
 
-    only-more : (0 < length rest) × (ended (b ∷ rest) ≡ b ∷ ended rest) → placeOf at (suc n) ∷ ls ≡ linesAt at (b ∷ rest)
+    only-more : (0 < length rest) × (ended (b ∷ rest) ≡ b ∷ ended rest) → place-from at (suc n) ∷ ls ≡ linesAt at (b ∷ rest)
     only-more q =
         let shift : suc (at + suc n) ≡ suc (suc at + n) = omega arith in
-        let shorter : AreLines text (suc at) rest (placeOf (suc at) n ∷ ls) =
+        let shorter : AreLines text (suc at) rest (place-from (suc at) n ∷ ls) =
         record {
           in-order = (refl, omega (arith, left), omega (arith, h .in-order .2), subst (λ (i : ℕ). InOrder (length text) i ls) shift (h .in-order .3));
           unbroken = (unbroken .1, h .unbroken .1);
           whole = tail-eq-of-cons-eq (whole ∙ q .1);
         } in
-        ap (longer at) (ih (placeOf (suc at) n ∷ ls) shorter) ∙ sym (lines-longer at b rest other)
+        ap (longer at) (ih (place-from (suc at) n ∷ ls) shorter) ∙ sym (lines-longer at b rest other)
 
-    only-longer : placeOf at (suc n) ∷ ls ≡ linesAt at (b ∷ rest)
+    only-longer : place-from at (suc n) ∷ ls ≡ linesAt at (b ∷ rest)
     only-longer = ⊎-elim only-last only-more (ended-last b rest)
 
 only : (text : List ℕ) (at : ℕ) (bytes : List ℕ) → drop at text ≡ bytes → (ls : List Place) → AreLines text at bytes ls → ls ≡ linesAt at bytes
@@ -166,8 +167,8 @@ only text at [] e ls h = rw (lines-nil at) (joined-none text ls (h .whole))
 only text at (b ∷ rest) e [] h = absurd (nil≢cons (sym (ended-none (b ∷ rest) (h .whole))))
 only text at (b ∷ rest) e (l ∷ ls) h = go (l .start) (l .len) (h .in-order .0) h (only text (suc at) rest (next text at b rest e))
   where
-    go : (start len : ℕ) → start ≡ at → AreLines text at (b ∷ rest) (placeOf start len ∷ ls)
-        → ((ms : List Place) → AreLines text (suc at) rest ms → ms ≡ linesAt (suc at) rest) → placeOf start len ∷ ls ≡ linesAt at (b ∷ rest)
+    go : (start len : ℕ) → start ≡ at → AreLines text at (b ∷ rest) (place-from start len ∷ ls)
+        → ((ms : List Place) → AreLines text (suc at) rest ms → ms ≡ linesAt (suc at) rest) → place-from start len ∷ ls ≡ linesAt at (b ∷ rest)
     go start zero q k ih = rw q (only-newline text at b rest e ih ls (rw q at k))
     go start (suc n) q k ih = rw q (only-longer text at b rest e ih n ls (rw q at k))
 

@@ -9,20 +9,18 @@ use Rattle.lexis.specs.declared.Place.{Place}
 use Rattle.lexis.specs.Run.{inLine, prefixLen}
 use Rattle.lexis.specs.Spelling.{every}
 use Rattle.lexis.specs.Tokens.{part}
-
-abbrev pub placeOf : ℕ → ℕ → Place
-placeOf start len = record { start = start; len = len }
+use Rattle.lexis.specs.Places.{place-from}
 
 -- a byte before lines belongs to the first of them, or is one of its own
 abbrev pub longer : ℕ → List Place → List Place
-longer at [] = placeOf at 1 ∷ []
-longer at (l ∷ ls) = placeOf at (suc (l .len)) ∷ ls
+longer at [] = place-from at 1 ∷ []
+longer at (l ∷ ls) = place-from at (suc (l .len)) ∷ ls
 
 -- the lines of bytes that stand in a text from a place on: a line ends before a newline or at the end of the bytes,
 -- and nothing after a last newline is no line
 unfoldable pub linesAt : ℕ → List ℕ → List Place
 linesAt at [] = []
-linesAt at (b ∷ rest) = cond (eqb b 10) (placeOf at 0 ∷ linesAt (suc at) rest) (longer at (linesAt (suc at) rest))
+linesAt at (b ∷ rest) = cond (eqb b 10) (place-from at 0 ∷ linesAt (suc at) rest) (longer at (linesAt (suc at) rest))
 
 -- the lines of a text from a place on, and all of them
 abbrev pub linesFrom : List ℕ → ℕ → List Place
@@ -47,7 +45,7 @@ nextLine text end = cond (ltb end (length text)) (end + 1) (length text)
 
 -- the line that starts at a place, and where the line behind it begins
 abbrev pub lineAt : List ℕ → ℕ → Place
-lineAt text at = placeOf at (lineEnd text at - at)
+lineAt text at = place-from at (lineEnd text at - at)
 
 abbrev pub behindLine : List ℕ → ℕ → ℕ
 behindLine text at = nextLine text (lineEnd text at)

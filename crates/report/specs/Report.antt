@@ -6,20 +6,21 @@ use mathlib.Core.List.{List, [], _∷_}
 use lib.ListN.{length}
 use Rattle.lexis.specs.declared.Place.{Place}
 use Rattle.lexis.specs.Tokens.{part}
+use Rattle.lexis.specs.Places.{nowhere, place-from}
 use Rattle.report.specs.declared.word.Word.{Word}
 use Rattle.report.specs.declared.word.Word.the-variants.{Answer, Inconsistent, Unknown}
 use Rattle.report.specs.declared.Report.{Report}
-use Rattle.report.specs.Lines.{placeOf, lines}
+use Rattle.report.specs.Lines.{lines}
 use Rattle.report.specs.Around.{AllIdle, First}
 use Rattle.report.specs.Word.{spelling, startsWith}
 
 -- ---- the two sorts of answers; fields that an answer does not name are zero, or the word that claims nothing
 
 abbrev pub refused : Place → Report
-refused place = record { code = 2; place = place; word = Unknown; facts = placeOf 0 0; next = 0 }
+refused place = record { code = 2; place = place; word = Unknown; facts = nowhere; next = 0 }
 
 abbrev pub found : Word → Place → ℕ → Report
-found word facts next = record { code = 0; place = placeOf 0 0; word = word; facts = facts; next = next }
+found word facts next = record { code = 0; place = nowhere; word = word; facts = facts; next = next }
 
 -- ---- what is reported
 
@@ -29,7 +30,7 @@ Says text line word = startsWith (spelling word) (part text line) ≡ true
 
 -- empty, at the end of the output
 abbrev pub endOf : List ℕ → Place
-endOf text = placeOf (length text) 0
+endOf text = place-from (length text) 0
 
 -- where lines begin: with the first of them, or at the end of the output
 abbrev pub beginning : List ℕ → List Place → ℕ
@@ -40,8 +41,8 @@ beginning text (l ∷ ls) = l .start
 abbrev pub reported : List ℕ → Word → List Place → Report
 reported text Answer [] = refused (endOf text)
 reported text Answer (facts ∷ behind) = found Answer facts (beginning text behind)
-reported text Inconsistent behind = found Inconsistent (placeOf 0 0) (beginning text behind)
-reported text Unknown behind = found Unknown (placeOf 0 0) (beginning text behind)
+reported text Inconsistent behind = found Inconsistent nowhere (beginning text behind)
+reported text Unknown behind = found Unknown nowhere (beginning text behind)
 
 -- the answer for an output: by the first line that is neither empty nor starts with `%`
 pub data Reported (text : List ℕ) : Report → Type 0 where

@@ -5,6 +5,7 @@ use crate::line::has_line;
 use crate::line::next_line;
 use crate::reader::line_from;
 use lexis::Place;
+use lexis::place_from;
 
 // A line, or none.
 pub enum Found {
@@ -31,7 +32,7 @@ pub fn out_of_place(text: &[u8], at: usize) -> Found
         let line = line_from(text, start);
         let len = line.len();
         if !is_idle(line) {
-            return Found::Line(Place { start, len });
+            return Found::Line(place_from(start, len));
         }
         start = next_line(text, start + len);
     }

@@ -4,7 +4,9 @@ ghost use Rattle.report.specs.Lines.{linesFrom};
 ghost use Rattle.report.specs.Report.{refused, found, reported, Reported};
 use around::Found;
 use around::out_of_place;
+use lexis::NOWHERE;
 use lexis::Place;
+use lexis::place_from;
 use line::has_line;
 use line::next_line;
 use reader::line_from;
@@ -18,8 +20,6 @@ pub mod word;
 
 // The refusal for a line out of place, and for a report or a facts line that is missing.
 const OUT_OF_PLACE: u8 = 2;
-
-const NO_PLACE: Place = Place { start: 0, len: 0 };
 
 // What the lines of an output say. A refusal has its code and its place; else the code is 0, the place is empty, and the other
 // fields hold the report's word, with ANSWER the line of the facts, and where the lines behind the report begin.
@@ -38,7 +38,7 @@ fn refused(place: Place) -> Report
         code: OUT_OF_PLACE,
         place,
         word: Word::Unknown,
-        facts: NO_PLACE,
+        facts: NOWHERE,
         next: 0,
     }
 }
@@ -48,7 +48,7 @@ fn found(word: Word, facts: Place, next: usize) -> Report
 {
     Report {
         code: 0,
-        place: NO_PLACE,
+        place: NOWHERE,
         word,
         facts,
         next,
@@ -60,15 +60,15 @@ fn answer(output: &[u8], at: usize) -> Report
     ensures { λ r. ⌜ r ≡ reported (now (output .entry)) Word.Answer (linesFrom (now (output .entry)) at) ⌝ }
 {
     if !has_line(output, at) {
-        return refused(Place {
-            start: output.len(),
-            len: 0,
-        });
+        return refused(place_from(output.len(), 0));
     }
     let line = line_from(output, at);
     let len = line.len();
-    let facts = Place { start: at, len };
-    found(Word::Answer, facts, next_line(output, at + len))
+    found(
+        Word::Answer,
+        place_from(at, len),
+        next_line(output, at + len),
+    )
 }
 
 // The report, whose first line is the first that is neither empty nor starts with `%`; or refusal 2 at that line, and at the
@@ -77,10 +77,7 @@ pub fn find_report(output: &[u8]) -> Report
     ensures { λ r. ⌜ Reported (now (output .entry)) r ⌝ }
 {
     let Found::Line(line) = out_of_place(output, 0) else {
-        return refused(Place {
-            start: output.len(),
-            len: 0,
-        });
+        return refused(place_from(output.len(), 0));
     };
     let start = line.start;
     let end = start + line.len;
@@ -90,10 +87,10 @@ pub fn find_report(output: &[u8]) -> Report
         return answer(output, next);
     }
     if starts_with(bytes, b"INCONSISTENT") {
-        return found(Word::Inconsistent, NO_PLACE, next);
+        return found(Word::Inconsistent, NOWHERE, next);
     }
     if starts_with(bytes, b"UNKNOWN") {
-        return found(Word::Unknown, NO_PLACE, next);
+        return found(Word::Unknown, NOWHERE, next);
     }
     refused(line)
 }

@@ -3,8 +3,9 @@ use mathlib.Core.Path.{_≡_}
 use mathlib.Core.List.{List, _++_}
 use Prim.Native.Nat.{ℕ, _+_, _≤_}
 use lib.ListN.{length}
+use Rattle.lexis.specs.Places.{place-from}
 use Rattle.meaning.specs.Rules.{Bytes}
-use Rattle.names.specs.Texts.{place-at, bytes-at}
+use Rattle.names.specs.Texts.{bytes-at}
 use Rattle.names.specs.Table.{capacity, names-of, Table}
 
 -- a table with room for n names more
@@ -14,7 +15,7 @@ pub record Room (program output : Bytes) (names : List ℕ) (n : ℕ) : Type 0 w
 
 -- the text stands in the two texts from `base` on
 abbrev pub Source : Bytes → Bytes → Bytes → ℕ → Type 0
-Source program output text base = text ≡ bytes-at program output (place-at base (length text))
+Source program output text base = text ≡ bytes-at program output (place-from base (length text))
 
 -- the names of before, and at most n behind them
 pub record Grows (program output : Bytes) (names : List ℕ) (n : ℕ) (names′ : List ℕ) : Type 0 where

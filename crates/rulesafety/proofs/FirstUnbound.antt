@@ -11,7 +11,7 @@ use Rattle.lexis.specs.declared.Place.{Place}
 use Rattle.lexis.specs.Places.{nowhere, place-in, places-in}
 use Rattle.lexis.proofs.PlaceTables.{places-length, place-among}
 use Rattle.rulesafety.specs.declared.unbound.Unbound.{Unbound}
-use Rattle.rulesafety.specs.Unbound.{FirstUnbound, found, all-bound}
+use Rattle.rulesafety.specs.Unbound.{no-unbound, FirstUnbound, found, all-bound}
 
 -- every variable with a number below n is bound
 abbrev pub AllBelow : (ℕ → Bool) → ℕ → Type 0
@@ -33,7 +33,7 @@ module _ (B : ℕ → Bool) (n : ℕ) (all : AllBelow B n) where
         let l = places-length variables count in
         found n (omega arith) u all (rw (place-among variables count n nowhere h, e))
 
-    pub none-unbound : count ≤ n → FirstUnbound B (places-in variables count) (record { found = false; place = nowhere })
+    pub none-unbound : count ≤ n → FirstUnbound B (places-in variables count) no-unbound
     none-unbound h = all-bound (λ x k. all x (let l = places-length variables count in omega arith)) refl
 
 -- ---- there is one answer

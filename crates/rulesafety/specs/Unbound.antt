@@ -14,9 +14,12 @@ pub record Numbered (variables : List ℕ) (count : ℕ) : Type 0 where
   pub few : count ≤ most-variables
   pub long : count * 2 ≤ length variables
 
+abbrev pub no-unbound : Unbound
+no-unbound = record { found = false; place = nowhere }
+
 -- B: the variables that are bound; firsts: where each variable of the rule first stands, by its number
 pub data FirstUnbound (B : ℕ → Bool) (firsts : List Place) (r : Unbound) : Type 0 where
   -- a variable is not bound, and each with a lower number is
   found : (x : ℕ) → x < length firsts → B x ≡ false → ((y : ℕ) → y < x → B y ≡ true) → r ≡ record { found = true; place = getD firsts x nowhere } → FirstUnbound B firsts r
   -- every variable is bound
-  all-bound : ((x : ℕ) → x < length firsts → B x ≡ true) → r ≡ record { found = false; place = nowhere } → FirstUnbound B firsts r
+  all-bound : ((x : ℕ) → x < length firsts → B x ≡ true) → r ≡ no-unbound → FirstUnbound B firsts r

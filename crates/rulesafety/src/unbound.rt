@@ -3,6 +3,7 @@ ghost use Rattle.lexis.specs.Places.{places-in};
 ghost use Rattle.rulesafety.specs.Bound.{bitsOf};
 ghost use Rattle.rulesafety.specs.Unbound.{Numbered, FirstUnbound};
 use crate::bound::Bound;
+use lexis::NOWHERE;
 use lexis::Place;
 use lexis::places::place_in;
 
@@ -11,6 +12,12 @@ pub struct Unbound {
     pub found: bool,
     pub place: Place,
 }
+
+// None was found.
+pub const NO_UNBOUND: Unbound = Unbound {
+    found: false,
+    place: NOWHERE,
+};
 
 // The variable with the least number that is not bound, of `count`. `variables` has where each of them first stands, by its number.
 pub fn first_unbound(bound: Bound, variables: &[u32], count: usize) -> Unbound
@@ -27,8 +34,5 @@ pub fn first_unbound(bound: Bound, variables: &[u32], count: usize) -> Unbound
         }
         number += 1;
     }
-    Unbound {
-        found: false,
-        place: Place { start: 0, len: 0 },
-    }
+    NO_UNBOUND
 }

@@ -3,6 +3,7 @@ use mathlib.Core.Bool.{Bool, cond}
 use mathlib.Core.List.{List, [], _∷_}
 use Prim.Native.Nat.{ℕ, zero, suc, _+_, _-_}
 use Rattle.lexis.specs.declared.Place.{Place}
+use Rattle.lexis.specs.Places.{place-from}
 use Rattle.reading.specs.Reading.{Placed}
 use Rattle.meaning.specs.Rules.{Bytes}
 use Rattle.grammar.specs.Tokens.{Token}
@@ -22,7 +23,7 @@ dot-end end (t ∷ ts) = cond (ends-rule (t .token)) (t .place .start + t .place
 
 -- from where something starts to where it ends
 abbrev pub between : ℕ → ℕ → Place
-between start end = record { start = start; len = end - start }
+between start end = place-from start (end - start)
 
 -- from the first token to the first dot; the end where there is no token
 unfoldable pub to-dot : Place → List (Placed Place Token) → Place

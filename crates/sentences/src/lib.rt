@@ -5,6 +5,7 @@ ghost use Rattle.sentences.specs.Sentences.{dot-end, to-dot, sentence};
 use lexis::Place;
 use lexis::kind::DOT;
 use lexis::kind::END;
+use lexis::place_from;
 use syntax::token::token_at;
 
 // Where the first dot from `at` on ends; the text's end where there is none.
@@ -34,10 +35,7 @@ fn to_dot(text: &[u8], at: usize, ground: bool) -> Place
         return place;
     }
     let end = dot_end(text, at, ground);
-    Place {
-        start: place.start,
-        len: end - place.start,
-    }
+    place_from(place.start, end - place.start)
 }
 
 // Rule `k` of a program, or fact `k` of a facts line where `ground`, counted from 0.

@@ -1,6 +1,7 @@
 -- The two lent texts, and a part of either.
 use Prim.Native.Nat.{ℕ}
 use Rattle.lexis.specs.declared.Place.{Place}
+use Rattle.lexis.specs.Places.{place-from}
 
 pub data Text : Type 0 where
   program output : Text
@@ -15,7 +16,7 @@ in-text x p = record { text = x; place = p }
 
 -- empty, at a byte of a text
 abbrev pub empty-at : Text → ℕ → Part
-empty-at x start = in-text x (record { start = start; len = 0 })
+empty-at x start = in-text x (place-from start 0)
 
 abbrev pub start-of : Text → Part
 start-of x = empty-at x 0

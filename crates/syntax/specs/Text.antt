@@ -11,6 +11,7 @@ use Rattle.lexis.specs.Kind.{kindNumber}
 use Rattle.lexis.specs.Number.{decimal}
 use Rattle.lexis.specs.Token.{nextToken}
 use Rattle.lexis.specs.Tokens.{part, after, tokensFrom}
+use Rattle.lexis.specs.Places.{place-from}
 use Rattle.reading.specs.Reading.{Placed}
 use Rattle.meaning.specs.Domain.{equal, unequal, less, at-most, greater, at-least}
 use Rattle.meaning.specs.Rules.{Bytes}
@@ -51,7 +52,7 @@ placed-from ground text at = map (placed-token text) (tokensFrom (not ground) te
 
 -- the end of a text, empty
 abbrev pub end-of : Bytes → Place
-end-of text = record { start = length text; len = 0 }
+end-of text = place-from (length text) 0
 
 -- the first token at or after a place, as the productions see it
 abbrev pub tokenRead : Bool → Bytes → ℕ → TokenRead

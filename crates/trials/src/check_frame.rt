@@ -9,26 +9,14 @@ use crate::frame::number_behind;
 use crate::frame::read_bytes;
 use crate::places::fill;
 use checker::check;
-use lexis::Place;
 use lexis::parts::part;
+use lexis::place_from;
 
 // The texts are the program, of this length, and the output behind it.
 fn trial(texts: &[u8], program_len: usize, output_len: usize, code: u64, places: &mut [u16]) {
     fill(places);
-    let program = part(
-        texts,
-        Place {
-            start: 0,
-            len: program_len,
-        },
-    );
-    let output = part(
-        texts,
-        Place {
-            start: program_len,
-            len: output_len,
-        },
-    );
+    let program = part(texts, place_from(0, program_len));
+    let output = part(texts, place_from(program_len, output_len));
     let answer = check(program, output, code, places);
     report(answer, places);
 }

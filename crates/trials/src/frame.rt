@@ -1,9 +1,9 @@
 // A frame: the words and numbers of its first line, and the bytes behind it.
 ghost use mathlib.Core.Path.{_≡_};
 ghost use Prim.Native.Nat.{_≤_};
-use lexis::Place;
 use lexis::parts::part;
 use lexis::parts::same_bytes;
+use lexis::place_from;
 use libc::STDIN_FILENO;
 
 // The most bytes of a frame's first line.
@@ -77,18 +77,12 @@ pub fn read_line(line: &mut [u8; MOST_LINE]) -> Line {
 
 // The words of a line of this length.
 pub fn words(line: &[u8; MOST_LINE], len: usize) -> &[u8] {
-    part(line, Place { start: 0, len })
+    part(line, place_from(0, len))
 }
 
 // Does the line begin with this word?
 pub fn begins_with(line: &[u8], word: &[u8]) -> bool {
-    let start = part(
-        line,
-        Place {
-            start: 0,
-            len: word.len(),
-        },
-    );
+    let start = part(line, place_from(0, word.len()));
     same_bytes(start, word)
 }
 

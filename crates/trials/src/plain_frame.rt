@@ -10,8 +10,8 @@ use crate::print::number;
 use crate::print::place;
 use crate::print::refused;
 use crate::print::say;
-use lexis::Place;
 use lexis::parts::part;
+use lexis::place_from;
 use plain::Written;
 use plain::write_plain;
 
@@ -54,13 +54,7 @@ fn report(written: Written, buffer: &[u8]) {
     say(b" length ");
     number(length as u64);
     ending(is_kept(buffer, length));
-    say(part(
-        buffer,
-        Place {
-            start: 0,
-            len: length,
-        },
-    ));
+    say(part(buffer, place_from(0, length)));
     say(b"\n");
 }
 
@@ -85,7 +79,7 @@ pub fn answer(line: &[u8], texts: &mut [u8], buffer: &mut [u8]) -> bool {
     if !newline() {
         return false;
     }
-    let program = part(texts, Place { start: 0, len: n });
+    let program = part(texts, place_from(0, n));
     if buffer.len() < most {
         return false;
     }

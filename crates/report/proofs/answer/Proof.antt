@@ -1,13 +1,12 @@
 -- `answer` meets its contract: the first of the lines behind ANSWER holds the facts, and the others begin behind it.
 -- Assumes nothing.
 use native.Mathlib.Omega.{arith}
-use mathlib.Core.Path.{sym, ap, _∙_}
+use mathlib.Core.Path.{sym, ap, ap₂, _∙_}
 use lib.ListN.{length}
 use borrow.Author.Tests.{ltb-true, ltb-false, not-true, not-false}
 use borrow.Author.Needs.{needs}
 use Rattle.report.specs.declared.word.Word.the-variants.{Answer}
-use Rattle.report.specs.Lines.{placeOf}
-use Rattle.report.specs.Report.{found}
+use Rattle.report.specs.Report.{refused, found}
 use Rattle.report.proofs.LineList.{its-end-inside}
 use Rattle.report.proofs.Reporting.{answer-alone, answer-facts}
 use Rattle.report.proofs.answer.Statement.{statement}
@@ -20,16 +19,20 @@ refused-requires : tie.Need-refused-requires
 refused-requires c κs = search needs
 
 returns : tie.Need-returns
-returns c = c .refused .ensures ∙ sym (answer-alone _ _ (ltb-false _ _ (sym (c .before .before .has-line .ensures) ∙ not-true _ (c .before .if1 .taken))))
+returns c =
+    c .refused .ensures
+    ∙ ap refused (c .before .place-from .ensures)
+    ∙ sym (answer-alone _ _ (ltb-false _ _ (sym (c .before .before .before .has-line .ensures) ∙ not-true _ (c .before .before .if1 .taken))))
 
 line-from-requires : tie.Need-line-from-requires
 line-from-requires c κs = search needs
 
 add-next-line : tie.Need-add-next-line
 add-next-line c =
-    let a = c .before .before .before .before .args in
-    let here = ltb-true (a .at) (length (a .output .now)) (sym (c .before .before .has-line .ensures) ∙ not-false _ (c .before .if1 .left)) in
-    omega (arith, its-end-inside (a .output .now) (c .line-from .result .now) (a .at) (c .line-from .ensures) here)
+    let line = c .before in
+    let a = line .before .before .before .before .args in
+    let here = ltb-true (a .at) (length (a .output .now)) (sym (line .before .before .has-line .ensures) ∙ not-false _ (line .before .if1 .left)) in
+    omega (arith, its-end-inside (a .output .now) (line .line-from .result .now) (a .at) (line .line-from .ensures) here)
 
 next-line-requires : tie.Need-next-line-requires
 next-line-requires c κs = search needs
@@ -39,19 +42,24 @@ found-requires c κs = search needs
 
 returns-2 : tie.Need-returns-2
 returns-2 c =
-    let here = ltb-true _ _ (sym (c .before .before .before .before .has-line .ensures) ∙ not-false _ (c .before .before .before .if1 .left)) in
+    let next = c .before in
+    let facts = next .before in
+    let line = facts .before in
+    let here = ltb-true _ _ (sym (line .before .before .has-line .ensures) ∙ not-false _ (line .before .if1 .left)) in
     c .found .ensures
-    ∙ ap (found Answer (placeOf (c .before .before .before .before .before .before .args .at) (length (c .before .before .line-from .result .now)))) (c .before .next-line .ensures)
-    ∙ sym (answer-facts _ _ here _ (c .before .before .line-from .ensures))
+    ∙ ap₂ (found Answer) (facts .place-from2 .ensures) (next .next-line .ensures)
+    ∙ sym (answer-facts _ _ here _ (line .line-from .ensures))
 
 pub answer-spec : {M : Type 1} → statement M
 answer-spec =
     tie.close
     (tie.spec
     has-line-requires
+    (λ c κs. search needs)
     refused-requires
     returns
     line-from-requires
+    (λ c κs. search needs)
     add-next-line
     next-line-requires
     found-requires

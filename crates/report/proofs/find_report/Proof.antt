@@ -1,8 +1,9 @@
 -- `find_report` meets its contract: by the first line that may not stand around the report, and the word that it starts with.
 -- Assumes nothing.
-use mathlib.Core.Path.{refl, sym, _∙_}
+use mathlib.Core.Path.{refl, sym, ap, _∙_}
 use borrow.Author.Needs.{needs}
 use Rattle.report.specs.declared.word.Word.the-variants.{Answer, Inconsistent, Unknown}
+use Rattle.report.specs.Report.{refused}
 use Rattle.report.proofs.Reporting.{report-missing, line-inside, report-stray, report-says, report-claims}
 use Rattle.report.proofs.find_report.Statement.{statement}
 use Rattle.report.proofs.find_report.Tie as tie
@@ -20,7 +21,7 @@ refused-requires : tie.Need-refused-requires
 refused-requires c κs = search needs
 
 returns : tie.Need-returns
-returns c = report-missing _ (c .before .before .before .out-of-place .ensures) (c .before .enum-told .given .1) _ (c .refused .ensures)
+returns c = report-missing _ (c .before .before .before .before .out-of-place .ensures) (c .before .before .enum-told .given .1) _ (c .refused .ensures ∙ ap refused (c .before .place-from .ensures))
 
 add-end : tie.Need-add-end
 add-end c =
@@ -115,6 +116,7 @@ find-report-spec =
     out-of-place-requires
     enum-known-line
     enum-told
+    (λ c κs. search needs)
     refused-requires
     returns
     add-end

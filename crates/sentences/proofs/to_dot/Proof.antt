@@ -16,14 +16,22 @@ returns c = inv (no-token (c .before .before .before .before .before .args .grou
 dot-end-requires : tie.Need-dot-end-requires
 dot-end-requires c κs = search needs
 
-sub-t8 : tie.Need-sub-t8
-sub-t8 c =
-    let a = c .before .before .before .before .before .before .before .args in
-    let before = start-before (a .ground) (a .text .now) (a .at) _ (c .before .before .before .before .before .token-at .ensures) (c .before .before .if1 .left) in
-    omega (arith, c .before .dot-end .ensures)
+sub-place-from : tie.Need-sub-place-from
+sub-place-from c =
+    let end = c .before in
+    let if1 = end .before in
+    let token = if1 .before .before .before in
+    let a = token .before .before .args in
+    let before = start-before (a .ground) (a .text .now) (a .at) _ (token .token-at .ensures) (if1 .if1 .left) in
+    omega (arith, end .dot-end .ensures)
 
 returns-2 : tie.Need-returns-2
-returns-2 c = ap (between (c .before .before .before .before .before .token-at .result .place .start)) (c .before .dot-end .ensures) ∙ inv (first-to-dot (c .before .before .before .before .before .before .before .args .ground) (c .before .before .before .before .before .before .before .args .text .now) (c .before .before .before .before .before .before .before .args .at) _ (c .before .before .before .before .before .token-at .ensures) (c .before .before .if1 .left))
+returns-2 c =
+    let end = c .before .before in
+    let if1 = end .before in
+    let token = if1 .before .before .before in
+    let a = token .before .before .args in
+    c .place-from .ensures ∙ ap (between (token .token-at .result .place .start)) (end .dot-end .ensures) ∙ inv (first-to-dot (a .ground) (a .text .now) (a .at) _ (token .token-at .ensures) (if1 .if1 .left))
 
 pub to-dot-spec : {M : Type 1} → statement M
-to-dot-spec = tie.close (tie.spec token-at-requires returns dot-end-requires sub-t8 returns-2)
+to-dot-spec = tie.close (tie.spec token-at-requires returns dot-end-requires sub-place-from (λ c κs. search needs) returns-2)

@@ -16,8 +16,8 @@ number-at-requires-2 : tie.Need-number-at-requires-2
 number-at-requires-2 c κs = search needs
 
 returns : tie.Need-returns
-returns c = rw (c .before .number-at .ensures, c .number-at2 .ensures)
+returns c = rw (c .place-from .ensures, c .before .before .number-at .ensures, c .before .number-at2 .ensures)
 
 pub place-in-spec : {M : Type 1} → statement M
 place-in-spec =
-    tie.close (tie.spec mul-at number-at-requires add-number-at number-at-requires-2 returns)
+    tie.close (tie.spec mul-at number-at-requires add-number-at number-at-requires-2 (λ c κs. search needs) returns)

@@ -1,6 +1,6 @@
 -- `table::place` meets its contract. Assumes nothing.
-use mathlib.Core.Path.{ap₂}
-use Rattle.names.specs.Texts.{place-at}
+use mathlib.Core.Path.{ap₂, _∙_}
+use Rattle.lexis.specs.Places.{place-from}
 use borrow.Author.Needs.{needs}
 use Rattle.names.proofs.table.place.Statement.{statement}
 use Rattle.names.proofs.table.place.Tie as tie
@@ -21,9 +21,9 @@ number-at-requires-2 : tie.Need-number-at-requires-2
 number-at-requires-2 c κs = search needs
 
 returns : tie.Need-returns
-returns c = ap₂ place-at (c .before .number-at .ensures) (c .number-at2 .ensures)
+returns c = c .place-from .ensures ∙ ap₂ place-from (c .before .before .number-at .ensures) (c .before .number-at2 .ensures)
 
 pub place-spec : {M : Type 1} → statement M
 place-spec =
     tie.close
-    (tie.spec mul-at add-at number-at-requires add-number-at number-at-requires-2 returns)
+    (tie.spec mul-at add-at number-at-requires add-number-at number-at-requires-2 (λ c κs. search needs) returns)

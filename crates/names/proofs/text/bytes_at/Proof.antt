@@ -20,7 +20,7 @@ part-requires-2 c κs = search needs
 
 returns-2 : tie.Need-returns-2
 unfolding bytes-at
-returns-2 c = rw (c .part2 .ensures, le-ltb _ _ (c .before .if1 .left))
+returns-2 c = rw (c .part2 .ensures, c .before .place-from .ensures, le-ltb _ _ (c .before .before .if1 .left))
 
 pub bytes-at-spec : {M : Type 1} → statement M
-bytes-at-spec = tie.close (tie.spec part-requires returns sub-behind part-requires-2 returns-2)
+bytes-at-spec = tie.close (tie.spec part-requires returns sub-behind (λ c κs. search needs) part-requires-2 returns-2)

@@ -33,9 +33,9 @@ is-idle-requires c κs = search needs
 
 returns : tie.Need-returns Inv-loop μ-loop
 returns c =
-    let here = ltb-true _ _ (sym (c .before .before .before .before .has-line .ensures) ∙ c .before .before .before .if1 .taken) in
-    let other = sym (c .before .is-idle .ensures) ∙ not-true _ (c .if2 .taken) in
-    c .before .before .before .before .before .loop .inv _ (stop-here _ _ _ (c .before .before .line-from .ensures) here other)
+    let here = ltb-true _ _ (sym (c .before .before .before .before .before .has-line .ensures) ∙ c .before .before .before .before .if1 .taken) in
+    let other = sym (c .before .before .is-idle .ensures) ∙ not-true _ (c .before .if2 .taken) in
+    c .before .before .before .before .before .before .loop .inv _ (rw (c .place-from .ensures) (stop-here _ _ _ (c .before .before .before .line-from .ensures) here other))
 
 add-next-line : tie.Need-add-next-line Inv-loop μ-loop
 add-next-line c =
@@ -71,6 +71,7 @@ out-of-place-spec =
     has-line-requires
     line-from-requires
     is-idle-requires
+    (λ c κs. search needs)
     returns
     add-next-line
     next-line-requires
