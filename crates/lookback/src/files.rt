@@ -1,4 +1,5 @@
 // The program's arguments, and the files that they name.
+use lexis::parts::same_bytes;
 
 // Room for one byte more than a text may have, so that a longer file is too long here as well.
 const ROOM: usize = 65537;
@@ -17,6 +18,15 @@ pub fn usage() {
     );
 }
 
+// The open file, or -1 where it can't be opened, which is said.
+fn open(path: &[u8]) -> i32 {
+    let file = os::open_read(path);
+    if file < 0 {
+        os::fail(path);
+    }
+    file
+}
+
 // Opens the file that argument i names, or says why it can't and answers -1.
 pub fn open_argument(i: usize) -> i32 {
     let mut path = io::buffer();
@@ -25,11 +35,21 @@ pub fn open_argument(i: usize) -> i32 {
         usage();
         return -1;
     }
-    let file = os::open_read(&path[..n]);
-    if file < 0 {
-        os::fail(&path[..n]);
+    open(&path[..n])
+}
+
+// The same, where `-` names standard input.
+pub fn open_output(i: usize) -> i32 {
+    let mut path = io::buffer();
+    let n = os::arg(i, &mut path);
+    if os::errno() != 0 {
+        usage();
+        return -1;
     }
-    file
+    if same_bytes(&path[..n], b"-") {
+        return libc::STDIN_FILENO;
+    }
+    open(&path[..n])
 }
 
 fn is_digits(text: &[u8]) -> bool {

@@ -1,5 +1,5 @@
 // The program that a person runs: `lookback check PROGRAM OUTPUT CODE` prints the answer of the check, and `lookback plain PROGRAM`
-// the plain form of a program. What goes wrong with an argument or a file is said on standard error, and then nothing is printed.
+// the plain form of a program; `-` as OUTPUT is standard input. What goes wrong with an argument or a file is said on standard error, and then nothing is printed.
 use lexis::parts::same_bytes;
 
 mod files;
@@ -31,7 +31,7 @@ fn check_arguments() {
     if program < 0 {
         return;
     }
-    let output = files::open_argument(3);
+    let output = files::open_output(3);
     if output < 0 {
         return;
     }
