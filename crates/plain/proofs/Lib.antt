@@ -1,3 +1,4 @@
 pub mod Unique
 pub mod Answers
 pub mod Entry
+pub mod TakenAgain

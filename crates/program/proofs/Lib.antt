@@ -5,6 +5,7 @@ pub mod Taken
 pub mod Numbered
 pub mod Spelled
 pub mod Safe
+pub mod Bound
 pub mod Puts
 pub mod Growing
 pub mod Filled

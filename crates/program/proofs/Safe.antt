@@ -89,7 +89,7 @@ module _ {ground : Bool} where
       let e : tokens (spell-rule m r) ≡ tokens (d .front) ++ symbol dot ∷ [] = ap tokens (d .whole) ∙ tokens-append (d .front) (mere dot ∷ []) in
       rw e (dots-in-append (tokens (d .front)) (symbol dot ∷ []) ∙ rw (d .no-dot), seen-append programs vs (tokens (d .front)) (symbol dot ∷ []))
 
-  behind-rules : (p : Program ground) → (dots-in (tokens (spell p)) ≡ length (rules-for p)) × (seen programs [] (tokens (spell p)) ≡ [])
+  pub behind-rules : (p : Program ground) → (dots-in (tokens (spell p)) ≡ length (rules-for p)) × (seen programs [] (tokens (spell p)) ≡ [])
   unfolding spell rules-for dots-in seen tokens
   behind-rules empty = (refl, refl)
   behind-rules (p then r) =
@@ -101,60 +101,111 @@ module _ {ground : Bool} where
 no-tree : {c : Program false} (n : ℕ) (q : Place) → _≡_ {A = Answer Place (Program false)} (refused n q) (tree c) → ⊥
 no-tree {c} n q e = let z : _≡_ {A = ℕ} 0 1 = cc in omega arith
 
--- ---- the statement
+-- ---- every variable of each rule is bound
 
-abbrev NoneUnbound : List (MeantRule Value) → Tokens → Type 0
+-- refusal 5 is given at none of these tokens
+abbrev pub NoneUnbound : List (MeantRule Value) → Tokens → Type 0
 NoneUnbound rules ts = (i n : ℕ) → ¬ Unbound rules ts i n
 
+abbrev pub RuleBound : Rule false → Type 0
+RuleBound r = (y : ℕ) → y < length (rule-variables r) → bound (rule-for r) y ≡ true
+
+abbrev pub AllBound : Program false → Type 0
+AllBound empty = Unit {0}
+AllBound (p then r) = AllBound p × RuleBound r
+
 -- a rule behind the rules of p
-module _ (p : Program false) (r : Rule false) (rest : List Token) (more : List (MeantRule Value)) (ts : Tokens) where
+module _ (p : Program false) (r : Rule false) (rest : List Token) (ts : Tokens) where
   abbrev m : Mark
   m = Mark.rule (suc (count p))
 
-  rule-safe : unplaced ts ≡ tokens (spell p) ++ (tokens (spell-rule m r) ++ rest) → NoneUnbound (rules-for p ++ rule-for r ∷ more) ts → safe (rule-for r) ≡ true
+  -- its tokens, and that reading begins anew at them
+  pub record Behind : Type 0 where
+    pub before : Tokens
+    pub ahead : Tokens
+    pub whole : before ++ ahead ≡ ts
+    pub passed : unplaced before ≡ tokens (spell p)
+    pub front : List Token
+    pub its-tokens : tokens (spell-rule m r) ≡ front ++ symbol dot ∷ []
+    pub no-dot : dots-in front ≡ 0
+    pub spelled : unplaced ahead ≡ front ++ symbol dot ∷ rest
+    pub new : met-behind before ≡ []
+    pub ended : dots before ≡ length (rules-for p)
+    pub many : length (firsts [] ahead) ≡ length (rule-variables r)
+
+  pub behind : unplaced ts ≡ tokens (spell p) ++ (tokens (spell-rule m r) ++ rest) → Behind
   unfolding tokens
-  rule-safe e none = safe-of-bound (rule-for r) (length (rule-variables r)) (λ y h. is-bound y h (bound (rule-for r) y) refl) (record { in-its-head = below .0; in-its-body = below .1 })
+  behind e =
+      let s = split ts (tokens (spell p)) (tokens (spell-rule m r) ++ rest) e in
+      let d = dotted m r in
+      let its : tokens (spell-rule m r) ≡ tokens (d .front) ++ symbol dot ∷ [] = ap tokens (d .whole) ∙ tokens-append (d .front) (mere dot ∷ []) in
+      let all : unplaced (s .ahead) ≡ tokens (d .front) ++ symbol dot ∷ rest = s .others ∙ ap (λ l. l ++ rest) its ∙ append-assoc (tokens (d .front)) (symbol dot ∷ []) rest in
+      let n : 0 + length (firsts [] (s .ahead)) ≡ length (rule-variables r) = counted [] (s .ahead) (tokens (d .front)) rest all (d .no-dot) ∙ ap length (met-seen false [] (d .front) ∙ d .meets) in
+      record {
+        before = s .before;
+        ahead = s .ahead;
+        whole = s .whole;
+        passed = s .its-tokens;
+        front = tokens (d .front);
+        its-tokens = its;
+        no-dot = d .no-dot;
+        spelled = all;
+        new = ap (seen programs []) (s .its-tokens) ∙ behind-rules p .1;
+        ended = dots-unplaced (s .before) ∙ ap dots-in (s .its-tokens) ∙ behind-rules p .0;
+        many = omega (arith, n);
+      }
+
+  rule-bound : (more : List (MeantRule Value)) → Behind → NoneUnbound (rules-for p ++ rule-for r ∷ more) ts → RuleBound r
+  rule-bound more s none y h = go (bound (rule-for r) y) refl
     where
-      below : (head-bound (λ x. ltb x (length (rule-variables r))) (rule-for r .head) ≡ true) × (every (literal-bound (λ x. ltb x (length (rule-variables r)))) (rule-for r .body) ≡ true)
-      below = rule-below r (length (rule-variables r)) (omega arith)
-
-      s : Split ts (tokens (spell p)) (tokens (spell-rule m r) ++ rest)
-      s = split ts (tokens (spell p)) (tokens (spell-rule m r) ++ rest) e
-
-      d : Dotted m r
-      d = dotted m r
-
-      its-tokens : unplaced (s .ahead) ≡ tokens (d .front) ++ symbol dot ∷ rest
-      its-tokens = s .others ∙ ap (λ l. l ++ rest) (ap tokens (d .whole) ∙ tokens-append (d .front) (mere dot ∷ [])) ∙ append-assoc (tokens (d .front)) (symbol dot ∷ []) rest
-
-      many : 0 + length (firsts [] (s .ahead)) ≡ length (rule-variables r)
-      many = counted [] (s .ahead) (tokens (d .front)) rest its-tokens (d .no-dot) ∙ ap length (met-seen false [] (d .front) ∙ d .meets)
-
-      is-bound : (y : ℕ) → y < length (rule-variables r) → (b : Bool) → bound (rule-for r) y ≡ b → bound (rule-for r) y ≡ true
-      is-bound y h true k = k
-      is-bound y h false k =
-          let f = first-of [] (s .ahead) y nowhere (omega (arith, many)) in
+      go : (b : Bool) → bound (rule-for r) y ≡ b → bound (rule-for r) y ≡ true
+      go true k = k
+      go false k =
+          let f = first-of [] (s .ahead) y nowhere (omega (arith, s .many)) in
           let z : 0 + y ≡ y = omega arith in
-          let new : met-behind (s .before) ≡ [] = ap (seen programs []) (s .its-tokens) ∙ behind-rules p .1 in
-          let ended : dots (s .before) ≡ length (rules-for p) = dots-unplaced (s .before) ∙ ap dots-in (s .its-tokens) ∙ behind-rules p .0 in
-          absurd (none (length (s .before) + f .0) 5 (rw (s .whole) at (case-of (rules-for p) more (rule-for r) (s .before) (s .ahead) new ended (f .0) y _ (rw z at (f .1)) k)))
+          absurd (none (length (s .before) + f .0) 5 (rw (s .whole) at (case-of (rules-for p) more (rule-for r) (s .before) (s .ahead) (s .new) (s .ended) (f .0) y _ (rw z at (f .1)) k)))
 
-pub rules-safe : (p : Program false) (rest : List Token) (more : List (MeantRule Value)) (ts : Tokens) → unplaced ts ≡ tokens (spell p) ++ rest → NoneUnbound (rules-for p ++ more) ts → every safe (rules-for p) ≡ true
-unfolding rules-for every spell
-rules-safe empty rest more ts e none = refl
-rules-safe (p then r) rest more ts e none =
+-- the tokens of p and a rule, one behind the other
+pub one-behind : (p : Program false) (r : Rule false) (rest : List Token) (ts : Tokens) → unplaced ts ≡ tokens (spell (p then r)) ++ rest → Behind p r rest ts
+unfolding spell
+one-behind p r rest ts e =
+    let m = Mark.rule (suc (count p)) in
+    behind p r rest ts (e ∙ ap (λ l. l ++ rest) (tokens-append (spell p) (spell-rule m r)) ∙ append-assoc (tokens (spell p)) (tokens (spell-rule m r)) rest)
+
+pub rules-bound : (p : Program false) (rest : List Token) (more : List (MeantRule Value)) (ts : Tokens) → unplaced ts ≡ tokens (spell p) ++ rest → NoneUnbound (rules-for p ++ more) ts → AllBound p
+unfolding rules-for spell
+rules-bound empty rest more ts e none = tt
+rules-bound (p then r) rest more ts e none =
     let m = Mark.rule (suc (count p)) in
     let f : unplaced ts ≡ tokens (spell p) ++ (tokens (spell-rule m r) ++ rest) = e ∙ ap (λ l. l ++ rest) (tokens-append (spell p) (spell-rule m r)) ∙ append-assoc (tokens (spell p)) (tokens (spell-rule m r)) rest in
     let g : NoneUnbound (rules-for p ++ rule-for r ∷ more) ts = rw (append-assoc (rules-for p) (rule-for r ∷ []) more) at none in
-    every-on safe (rules-for p) (rule-for r) (rules-safe p (tokens (spell-rule m r) ++ rest) (rule-for r ∷ more) ts f g) (rule-safe p r rest more ts f g)
+    (rules-bound p (tokens (spell-rule m r) ++ rest) (rule-for r ∷ more) ts f g, rule-bound p r rest ts more (behind p r rest ts f) g)
 
-its-spelling : (text : Bytes) (c : Program false) (a : Answer Place (Program false)) → a ≡ tree c → Reading programs (end-of text) (tokens-of text) a → unplaced (tokens-of text) ≡ tokens (spell c)
+-- ---- so every rule is safe
+
+bound-safe : (r : Rule false) → RuleBound r → safe (rule-for r) ≡ true
+bound-safe r h =
+    let below = rule-below r (length (rule-variables r)) (omega arith) in
+    safe-of-bound (rule-for r) (length (rule-variables r)) h (record { in-its-head = below .0; in-its-body = below .1 })
+
+all-safe : (p : Program false) → AllBound p → every safe (rules-for p) ≡ true
+unfolding rules-for every
+all-safe empty h = refl
+all-safe (p then r) h = every-on safe (rules-for p) (rule-for r) (all-safe p (h .0)) (bound-safe r (h .1))
+
+pub its-spelling : (text : Bytes) (c : Program false) (a : Answer Place (Program false)) → a ≡ tree c → Reading programs (end-of text) (tokens-of text) a → unplaced (tokens-of text) ≡ tokens (spell c)
 its-spelling text c a e (Reading.read d s w) = let z : d ≡ c = cc in rw (← z) (inv s)
 its-spelling text c a e (Reading.wrong b t l h k n) = absurd (no-tree 2 (t .place) e)
 its-spelling text c a e (Reading.short h k) = absurd (no-tree 2 (end-of text) e)
 its-spelling text c a e (Reading.over b t l h k m g n f) = absurd (no-tree (suc n) (t .place) e)
 
-pub read-is-safe : (text : Bytes) (c : Program false) → ProgramStage text (on c) → every safe (rules-for c) ≡ true
-read-is-safe text c h =
-    let t = read-is-read text c h in
-    rules-safe c [] [] (tokens-of text) (its-spelling text c (tree c) refl (t .reading) ∙ inv (append-nil (tokens (spell c)))) (rw (← (append-nil (rules-for c))) at (t .none-unbound))
+-- ---- the statements
+
+module _ (text : Bytes) (c : Program false) (h : ProgramStage text (on c)) where
+  pub read-is-bound : AllBound c
+  read-is-bound =
+      let t = read-is-read text c h in
+      rules-bound c [] [] (tokens-of text) (its-spelling text c (tree c) refl (t .reading) ∙ inv (append-nil (tokens (spell c)))) (rw (← (append-nil (rules-for c))) at (t .none-unbound))
+
+  pub read-is-safe : every safe (rules-for c) ≡ true
+  read-is-safe = all-safe c read-is-bound
