@@ -14,3 +14,4 @@ pub mod Settled
 pub mod Values
 pub mod Herbrand
 pub mod Examples
+pub mod ValueExamples
