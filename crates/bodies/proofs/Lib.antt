@@ -1,0 +1,4 @@
+pub mod More
+pub mod Steps
+pub mod Bodies
+pub mod Solving

@@ -1,0 +1,5 @@
+pub mod Standing
+pub mod Ahead
+pub mod Ends
+pub mod Arrivals
+pub mod ByValue

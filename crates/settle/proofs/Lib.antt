@@ -1,0 +1,5 @@
+pub mod Outcomes
+pub mod Values
+pub mod Builtins
+pub mod Negated
+pub mod Literals
