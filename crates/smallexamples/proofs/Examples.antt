@@ -1,0 +1,98 @@
+-- T1 to T12: the texts are read as the rules and facts of the meaning's list of the same examples, whose outcomes are settled there
+-- (`meaning`, Examples), and each of these outcomes says what is stated of the texts.
+use mathlib.Core.Path.{_≡_, refl, sym as inv, ap}
+use mathlib.Core.Logic.{inl, inr}
+use mathlib.Core.Option.{Option, some}
+use mathlib.Core.List.{List, [], _∷_, _++_, map, head-eq-of-cons-eq, tail-eq-of-cons-eq}
+use Prim.Native.Nat.{ℕ}
+use native.Mathlib.Omega.{arith}
+use lib.ListN.{length, drop}
+use Rattle.lexis.specs.Class.{classOf}
+use Rattle.lexis.specs.Run.{isBlank, prefixLen}
+use Rattle.lexis.specs.Gap.{startsComment, gap}
+use Rattle.lexis.specs.Number.{decimalAfter}
+use Rattle.lexis.specs.Spelling.{singleKind, pairKind, nameKind}
+use Rattle.lexis.specs.Token.{markAt, tokenAt, nextToken}
+use Rattle.lexis.specs.Tokens.{tokensUpTo, tokensFrom}
+use Rattle.meaning.specs.Sets.{In, every, any, Each}
+use Rattle.meaning.specs.Rules.{Fact, Rule, predicate}
+use Rattle.meaning.specs.Values.{same-number, same-bytes, same-value, Value, values, in-range}
+use Rattle.meaning.specs.Safety.{in-term, in-side, in-atom, positives, in-positives, term-bound, side-bound, when, else, gain-left, gain, next-gain, with, scan, equations, bound-after, bound}
+use Rattle.meaning.specs.Instances.{same-sign, same-predicate, same-arguments, same-fact}
+use Rattle.meaning.specs.Matcher.{then}
+use Rattle.meaning.specs.Outcomes.{Answers}
+use Rattle.meaning.specs.Ascii.{last-bytes, ascii}
+use Rattle.meaning.specs.Examples as meant
+use Rattle.meaning.proofs.Examples as settled
+use Rattle.grammar.specs.Moves.{comparison-number, sign-number, token-number}
+use Rattle.grammar.specs.Abstraction.{value-for, values-for, argument-values-for, fact-for, facts-for}
+use Rattle.grammar.proofs.Computing.{computing}
+use Rattle.syntax.specs.Text.{token-of}
+use Rattle.sentences.specs.Sentences.{behind-dots, dot-end, to-dot, sentence}
+use Rattle.program.proofs.Numbered.{head-variables, rule-variables}
+use Rattle.report.specs.Lines.{linesAt}
+use Rattle.report.specs.Word.{startsWith}
+use Rattle.report.proofs.Answers.{report-of, out-of-place-of}
+use Rattle.answered.specs.Answer.{Result, positions, says, result}
+use Rattle.answered.specs.Judged.{settles}
+use Rattle.answered.specs.Answered.{rule-part}
+use Rattle.smallexamples.specs.Examples.{Example, Holds, examples}
+use Rattle.smallexamples.proofs.Unclashing.{unlike, apart}
+use Rattle.smallexamples.proofs.Bound.{every-below, all-bound}
+use Rattle.smallexamples.proofs.Texts.{fits, tree-of, tree-in, program-rules, is-answer, reports-facts, is-nothing, line-facts, output-facts, program-taken, output-taken, answered-with-room, answered-without-room}
+
+-- to unfold this is to unfold all that reading a text computes with
+read-opened : Unit {0}
+unfolding classOf isBlank prefixLen startsComment gap decimalAfter singleKind pairKind nameKind markAt tokenAt nextToken tokensUpTo tokensFrom every any predicate same-number same-bytes same-value in-term in-side in-atom positives in-positives term-bound side-bound when else gain-left gain next-gain with scan equations bound-after bound same-sign same-predicate same-arguments same-fact then last-bytes ascii value-for values-for argument-values-for fact-for facts-for computing token-of head-variables rule-variables linesAt startsWith report-of out-of-place-of unlike apart every-below all-bound fits tree-of tree-in program-rules is-answer reports-facts is-nothing line-facts output-facts
+read-opened = tt
+
+-- ---- the texts are read as the rules and facts
+
+record Taken : Type 0 where
+  rules : Option (List (Rule Value))
+  candidate : Option (List (Fact Value))
+
+abbrev from-texts : Example → Taken
+from-texts e = record { rules = program-rules (e .program); candidate = output-facts (e .output) }
+
+abbrev as-meant : meant.Example → Taken
+as-meant m = record { rules = some (m .program); candidate = some (m .candidate) }
+
+read-as-meant : map from-texts examples ≡ map as-meant meant.examples
+unfolding read-opened
+read-as-meant = refl
+
+counted : map (λ (e : Example). e .facts) examples ≡ map (λ (m : meant.Example). length (m .candidate)) meant.examples
+counted = refl
+
+-- ---- the outcomes say what is stated
+
+abbrev Says : Example → meant.Example → Type 0
+Says e m = _≡_ {A = List ℕ → Result} (λ places. result places (settles (rule-part (e .program)) places (m .outcome))) (λ places. record { answer = e .answer; places = e .rounds ++ drop (length (e .rounds)) places })
+
+say : Each Says examples meant.examples
+unfolding read-opened token-number sign-number comparison-number behind-dots dot-end to-dot sentence positions says result settles
+say = (refl, (refl, (refl, (refl, (refl, (refl, (refl, (refl, (refl, (refl, (refl, (refl, tt))))))))))))
+
+-- ---- so each of the twelve holds
+
+abbrev Settled : meant.Example → Type 0
+Settled m = Answers values in-range (m .program) (m .candidate) (m .outcome)
+
+one-holds : (e : Example) (m : meant.Example) → from-texts e ≡ as-meant m → e .facts ≡ length (m .candidate) → Says e m → Settled m → Holds e
+one-holds e m taken facts says answers =
+    let p = program-taken (e .program) (m .program) (ap (λ (x : Taken). x .rules) taken) in
+    let c = output-taken (e .output) (m .candidate) (ap (λ (x : Taken). x .candidate) taken) in
+    record {
+      answered = λ places room. answered-with-room (e .program) (e .output) (m .program) (m .candidate) p c places (m .outcome) answers (omega (arith, facts, room)) _ _ (inv (ap (λ (f : List ℕ → Result). f places) says));
+      short = λ places few. answered-without-room (e .program) (e .output) (m .program) (m .candidate) p c places (omega (arith, facts, few));
+    }
+
+all-hold : (es : List Example) (ms : List meant.Example) → map from-texts es ≡ map as-meant ms → map (λ (e : Example). e .facts) es ≡ map (λ (m : meant.Example). length (m .candidate)) ms → Each Says es ms → ((m : meant.Example) → In m ms → Settled m) → (e : Example) → In e es → Holds e
+all-hold [] ms t c s settled e i = absurd i
+all-hold (x ∷ es) [] t c s settled e i = absurd s
+all-hold (x ∷ es) (m ∷ ms) t c s settled e (inl q) = rw q (one-holds x m (head-eq-of-cons-eq t) (head-eq-of-cons-eq c) (s .0) (settled m (inl refl)))
+all-hold (x ∷ es) (m ∷ ms) t c s settled e (inr i) = all-hold es ms (tail-eq-of-cons-eq t) (tail-eq-of-cons-eq c) (s .1) (λ n j. settled n (inr j)) e i
+
+pub twelve : (e : Example) → In e examples → Holds e
+twelve e i = all-hold examples meant.examples read-as-meant counted say settled.twelve e i

@@ -1,0 +1,58 @@
+-- Document 01's small examples T1 to T12, as texts: a program, what the solver printed, and the answer that the paper states.
+use Prim.Native.Nat.{ℕ, _≤_, _<_}
+use Prim.Native.String.{String}
+use mathlib.Core.List.{List, [], _∷_, _++_}
+use lib.ListN.{length, drop}
+use Rattle.lexis.specs.Places.{place-from}
+use Rattle.meaning.specs.Rules.{Bytes}
+use Rattle.meaning.specs.Ascii.{ascii}
+use Rattle.stages.specs.Parts.{program, output, in-text, start-of}
+use Rattle.answered.specs.Answer.{Answer, refused, accepted, unsatisfied, smaller}
+use Rattle.answered.specs.Answered.{Answered}
+
+pub record Example : Type 0 where
+  pub program : Bytes
+  pub output : Bytes
+  -- how many facts the candidate has
+  pub facts : ℕ
+  pub answer : Answer
+  -- what is written into the places: with ACCEPTED each atom's round, else nothing
+  pub rounds : List ℕ
+
+-- With the solver's code 10, and whatever the places hold: where there is one for each fact, the check answers so, and leaves the rounds
+-- in the first places and the others as they were; where there are fewer, it refuses with 9, and all are as they were.
+pub record Holds (e : Example) : Type 0 where
+  pub answered : (places : List ℕ) → e .facts ≤ length places → Answered (e .program) (e .output) 10 places (e .answer) (e .rounds ++ drop (length (e .rounds)) places)
+  pub short : (places : List ℕ) → length places < e .facts → Answered (e .program) (e .output) 10 places (refused 9 (start-of output)) places
+
+-- ---- the list
+
+-- the report's line, and the facts line
+abbrev printed : String → Bytes
+printed facts = ascii "ANSWER" ++ (10 ∷ (ascii facts ++ (10 ∷ [])))
+
+abbrev example : String → String → ℕ → Answer → List ℕ → Example
+example the-program facts count answer rounds = record { program = ascii the-program; output = printed facts; facts = count; answer = answer; rounds = rounds }
+
+abbrev transfers : String
+transfers = "at(u1,north).moved(u1,north,south).held(U,S):-at(U,S).held(U,T):-held(U,S),moved(U,S,T)."
+
+abbrev either : String
+either = "a:-not b.b:-not a."
+
+abbrev pub examples : List Example
+examples =
+    example transfers "at(u1,north). moved(u1,north,south). held(u1,north). held(u1,south)." 4 (accepted 4 3) (1 ∷ 1 ∷ 2 ∷ 3 ∷ [])
+    ∷ example transfers "at(u1,north). moved(u1,north,south). held(u1,north)." 3 (unsatisfied 4 (3 ∷ 2 ∷ [])) []
+    ∷ example "" "" 0 (accepted 0 0) []
+    ∷ example "a:-b.b:-a." "a. b." 2 (smaller []) []
+    ∷ example either "a." 1 (accepted 1 1) (1 ∷ [])
+    ∷ example either "a. b." 2 (smaller []) []
+    ∷ example either "" 0 (unsatisfied 1 []) []
+    ∷ example "a:-not a." "a." 1 (smaller []) []
+    ∷ example "a.:-a." "a." 1 (unsatisfied 2 (1 ∷ [])) []
+    ∷ example "p(X):-q(Y),X=Y+1.q(a)." "q(a)." 1 (accepted 1 1) (1 ∷ [])
+    ∷ example "p(X):-q(Y),X=Y+1.q(999999999)." "q(999999999). p(1000000000)." 2 (accepted 2 2) (1 ∷ 2 ∷ [])
+    -- the part is `p(X):-q(Y),X=Y+1.`
+    ∷ example "p(X):-q(Y),X=Y+1.q(1000000000)." "q(1000000000)." 1 (refused 8 (in-text program (place-from 0 17))) []
+    ∷ []
