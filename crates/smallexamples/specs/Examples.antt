@@ -20,7 +20,8 @@ pub record Example : Type 0 where
   pub rounds : List ℕ
 
 -- With the solver's code 10, and whatever the places hold: where there is one for each fact, the check answers so, and leaves the rounds
--- in the first places and the others as they were; where there are fewer, it refuses with 9, and all are as they were.
+-- in the first places and the others as they were; where there are fewer, it refuses with 9, and all are as they were. It has no other
+-- answer (`answered-unique`).
 pub record Holds (e : Example) : Type 0 where
   pub answered : (places : List ℕ) → e .facts ≤ length places → Answered (e .program) (e .output) 10 places (e .answer) (e .rounds ++ drop (length (e .rounds)) places)
   pub short : (places : List ℕ) → length places < e .facts → Answered (e .program) (e .output) 10 places (refused 9 (start-of output)) places
@@ -42,17 +43,23 @@ either = "a:-not b.b:-not a."
 
 abbrev pub examples : List Example
 examples =
+    -- T1, T2
     example transfers "at(u1,north). moved(u1,north,south). held(u1,north). held(u1,south)." 4 (accepted 4 3) (1 ∷ 1 ∷ 2 ∷ 3 ∷ [])
     ∷ example transfers "at(u1,north). moved(u1,north,south). held(u1,north)." 3 (unsatisfied 4 (3 ∷ 2 ∷ [])) []
+    -- T3
     ∷ example "" "" 0 (accepted 0 0) []
+    -- T4
     ∷ example "a:-b.b:-a." "a. b." 2 (smaller []) []
+    -- T5, T6, T7
     ∷ example either "a." 1 (accepted 1 1) (1 ∷ [])
     ∷ example either "a. b." 2 (smaller []) []
     ∷ example either "" 0 (unsatisfied 1 []) []
+    -- T8
     ∷ example "a:-not a." "a." 1 (smaller []) []
+    -- T9
     ∷ example "a.:-a." "a." 1 (unsatisfied 2 (1 ∷ [])) []
+    -- T10, T11, T12, which hands back `p(X):-q(Y),X=Y+1.`
     ∷ example "p(X):-q(Y),X=Y+1.q(a)." "q(a)." 1 (accepted 1 1) (1 ∷ [])
     ∷ example "p(X):-q(Y),X=Y+1.q(999999999)." "q(999999999). p(1000000000)." 2 (accepted 2 2) (1 ∷ 2 ∷ [])
-    -- the part is `p(X):-q(Y),X=Y+1.`
     ∷ example "p(X):-q(Y),X=Y+1.q(1000000000)." "q(1000000000)." 1 (refused 8 (in-text program (place-from 0 17))) []
     ∷ []
