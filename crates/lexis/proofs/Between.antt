@@ -23,11 +23,11 @@ no-mark b o s p [] = rw o s
 no-mark b o s p (c ∷ []) = rw o (p c)
 no-mark b o s p (c ∷ d ∷ rest) = rw o
 
-blank-stray : (b : ℕ) (rest : List ℕ) → isBlank b ≡ true → kindOf (b ∷ rest) ≡ Stray
+blank-stray : (program : Bool) (b : ℕ) (rest : List ℕ) → isBlank program b ≡ true → kindOf (b ∷ rest) ≡ Stray
 unfolding isBlank classOf singleKind pairKind
-blank-stray b rest = go (eqb b 32) refl (eqb b 9) refl (eqb b 10) refl
+blank-stray program b rest = go (eqb b 32) refl (eqb b 9) refl (eqb b 10) refl
   where
-    go : (s : Bool) → eqb b 32 ≡ s → (t : Bool) → eqb b 9 ≡ t → (n : Bool) → eqb b 10 ≡ n → (s || (t || n)) ≡ true → kindOf (b ∷ rest) ≡ Stray
+    go : (s : Bool) → eqb b 32 ≡ s → (t : Bool) → eqb b 9 ≡ t → (n : Bool) → eqb b 10 ≡ n → (s || (t || (n && program))) ≡ true → kindOf (b ∷ rest) ≡ Stray
     go true e t f n g h = rw (eqb-true b 32 e) (no-mark 32 refl refl (λ c. refl) rest)
     go false e true f n g h = rw (eqb-true b 9 f) (no-mark 9 refl refl (λ c. refl) rest)
     go false e false f true g h = rw (eqb-true b 10 g) (no-mark 10 refl refl (λ c. refl) rest)
@@ -41,12 +41,12 @@ is-false : (t : Bool) → (t ≡ true → ⊥) → t ≡ false
 is-false true h = absurd (h refl)
 is-false false h = refl
 
-pub token-no-gap : (comments : Bool) (text : List ℕ) (len : ℕ) → isStray (kindOf (take len text)) ≡ false → gap comments text ≡ 0
+pub token-no-gap : (program : Bool) (text : List ℕ) (len : ℕ) → isStray (kindOf (take len text)) ≡ false → gap program text ≡ 0
 unfolding kindOf
-token-no-gap comments [] zero h = absurd (true≢false h)
-token-no-gap comments [] (suc len) h = absurd (true≢false h)
-token-no-gap comments (b ∷ rest) zero h = absurd (true≢false h)
-token-no-gap comments (b ∷ rest) (suc len) h =
-    no-gap comments (b ∷ rest)
-    (prefix-none isBlank b rest (is-false (isBlank b) (λ e. true≢false (sym (ap isStray (blank-stray b (take len rest) e)) ∙ h))))
-    (is-false (comments && startsComment (b ∷ rest)) (λ e. true≢false (sym (ap isStray (comment-stray b rest (both comments (startsComment (b ∷ rest)) e .1) (take len rest))) ∙ h)))
+token-no-gap program [] zero h = absurd (true≢false h)
+token-no-gap program [] (suc len) h = absurd (true≢false h)
+token-no-gap program (b ∷ rest) zero h = absurd (true≢false h)
+token-no-gap program (b ∷ rest) (suc len) h =
+    no-gap program (b ∷ rest)
+    (prefix-none (isBlank program) b rest (is-false (isBlank program b) (λ e. true≢false (sym (ap isStray (blank-stray program b (take len rest) e)) ∙ h))))
+    (is-false (program && startsComment (b ∷ rest)) (λ e. true≢false (sym (ap isStray (comment-stray b rest (both program (startsComment (b ∷ rest)) e .1) (take len rest))) ∙ h)))

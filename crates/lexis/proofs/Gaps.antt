@@ -14,18 +14,18 @@ use Rattle.lexis.specs.Gap.{startsComment, gap, comment}
 use Rattle.lexis.proofs.Conjunction.{both}
 use Rattle.lexis.proofs.Prefix.{prefix-nil, prefix-more, prefix-none, prefix-rest}
 
-pub gap-blank : (comments : Bool) (b : ℕ) (rest : List ℕ) → isBlank b ≡ true → gap comments (b ∷ rest) ≡ suc (gap comments rest)
+pub gap-blank : (program : Bool) (b : ℕ) (rest : List ℕ) → isBlank program b ≡ true → gap program (b ∷ rest) ≡ suc (gap program rest)
 unfolding gap
-gap-blank comments b rest e = rw e
+gap-blank program b rest e = rw e
 
 -- blanks, and the gap behind them
-gap-blanks : (comments : Bool) (s : List ℕ) → gap comments s ≡ prefixLen isBlank s + gap comments (drop (prefixLen isBlank s) s)
-gap-blanks comments [] = rw (prefix-nil isBlank) (sym (zero-add _))
-gap-blanks comments (b ∷ rest) = go (isBlank b) refl (gap-blanks comments rest)
+gap-blanks : (program : Bool) (s : List ℕ) → gap program s ≡ prefixLen (isBlank program) s + gap program (drop (prefixLen (isBlank program) s) s)
+gap-blanks program [] = rw (prefix-nil (isBlank program)) (sym (zero-add _))
+gap-blanks program (b ∷ rest) = go (isBlank program b) refl (gap-blanks program rest)
   where
-    go : (t : Bool) → isBlank b ≡ t → gap comments rest ≡ prefixLen isBlank rest + gap comments (drop (prefixLen isBlank rest) rest) → gap comments (b ∷ rest) ≡ prefixLen isBlank (b ∷ rest) + gap comments (drop (prefixLen isBlank (b ∷ rest)) (b ∷ rest))
-    go true e ih = rw (prefix-more isBlank b rest e, gap-blank comments b rest e) (omega arith)
-    go false e ih = rw (prefix-none isBlank b rest e) (sym (zero-add _))
+    go : (t : Bool) → isBlank program b ≡ t → gap program rest ≡ prefixLen (isBlank program) rest + gap program (drop (prefixLen (isBlank program) rest) rest) → gap program (b ∷ rest) ≡ prefixLen (isBlank program) (b ∷ rest) + gap program (drop (prefixLen (isBlank program) (b ∷ rest)) (b ∷ rest))
+    go true e ih = rw (prefix-more (isBlank program) b rest e, gap-blank program b rest e) (omega arith)
+    go false e ih = rw (prefix-none (isBlank program) b rest e) (sym (zero-add _))
 
 -- the line of a comment, and the gap behind it
 comment-line : (s : List ℕ) → comment s ≡ prefixLen inLine s + gap true (drop (prefixLen inLine s) s)
@@ -37,13 +37,13 @@ comment-line (b ∷ rest) = go (eqb b 10) refl (comment-line rest)
     go true e ih = rw (eqb-true b 10 e) (sym (zero-add _))
     go false e ih = rw e (omega arith)
 
-pub no-gap : (comments : Bool) (s : List ℕ) → prefixLen isBlank s ≡ 0 → (comments && startsComment s) ≡ false → gap comments s ≡ 0
+pub no-gap : (program : Bool) (s : List ℕ) → prefixLen (isBlank program) s ≡ 0 → (program && startsComment s) ≡ false → gap program s ≡ 0
 unfolding gap
-no-gap comments [] h e = refl
-no-gap comments (b ∷ rest) h e = go (isBlank b) refl
+no-gap program [] h e = refl
+no-gap program (b ∷ rest) h e = go (isBlank program b) refl
   where
-    go : (t : Bool) → isBlank b ≡ t → gap comments (b ∷ rest) ≡ 0
-    go true q = absurd (let z : suc (prefixLen isBlank rest) ≡ 0 = sym (prefix-more isBlank b rest q) ∙ h in omega arith)
+    go : (t : Bool) → isBlank program b ≡ t → gap program (b ∷ rest) ≡ 0
+    go true q = absurd (let z : suc (prefixLen (isBlank program) rest) ≡ 0 = sym (prefix-more (isBlank program) b rest q) ∙ h in omega arith)
     go false q = rw (q, e)
 
 comment-gap : (s : List ℕ) → startsComment s ≡ true → gap true s ≡ comment s
@@ -66,23 +66,23 @@ comment-starts (b ∷ rest) e =
     let p : b ≡ 37 = eqb-true b 37 (both _ _ e .0) in
     (omega arith, rw p (omega arith))
 
-module _ (comments : Bool) (s : List ℕ) (i j : ℕ) (ej : j ≡ i + prefixLen isBlank (drop i s)) where
-  behind-blanks : i + gap comments (drop i s) ≡ j + gap comments (drop j s)
-  behind-blanks = rw (ej, ← (drop-drop (prefixLen isBlank (drop i s)) i s), gap-blanks comments (drop i s)) (omega arith)
+module _ (program : Bool) (s : List ℕ) (i j : ℕ) (ej : j ≡ i + prefixLen (isBlank program) (drop i s)) where
+  behind-blanks : i + gap program (drop i s) ≡ j + gap program (drop j s)
+  behind-blanks = rw (ej, ← (drop-drop (prefixLen (isBlank program) (drop i s)) i s), gap-blanks program (drop i s)) (omega arith)
 
-  pub gap-stop : (comments && startsComment (drop j s)) ≡ false → j ≡ i + gap comments (drop i s)
+  pub gap-stop : (program && startsComment (drop j s)) ≡ false → j ≡ i + gap program (drop i s)
   gap-stop e =
-      let b : prefixLen isBlank (drop j s) ≡ 0 = rw (ej, ← (drop-drop (prefixLen isBlank (drop i s)) i s)) (prefix-rest isBlank (drop i s)) in
-      let z : gap comments (drop j s) ≡ 0 = no-gap comments (drop j s) b e in
+      let b : prefixLen (isBlank program) (drop j s) ≡ 0 = rw (ej, ← (drop-drop (prefixLen (isBlank program) (drop i s)) i s)) (prefix-rest (isBlank program) (drop i s)) in
+      let z : gap program (drop j s) ≡ 0 = no-gap program (drop j s) b e in
       omega (arith, behind-blanks)
 
-  module _ (e : (comments && startsComment (drop j s)) ≡ true) (k : ℕ) (ek : k ≡ j + prefixLen inLine (drop j s)) where
-    allowed : (comments ≡ true) × (startsComment (drop j s) ≡ true)
-    allowed = both comments (startsComment (drop j s)) e
+  module _ (e : (program && startsComment (drop j s)) ≡ true) (k : ℕ) (ek : k ≡ j + prefixLen inLine (drop j s)) where
+    allowed : (program ≡ true) × (startsComment (drop j s) ≡ true)
+    allowed = both program (startsComment (drop j s)) e
 
-    pub gap-comment : i + gap comments (drop i s) ≡ k + gap comments (drop k s)
+    pub gap-comment : i + gap program (drop i s) ≡ k + gap program (drop k s)
     gap-comment =
-        let line : gap comments (drop j s) ≡ prefixLen inLine (drop j s) + gap comments (drop (prefixLen inLine (drop j s)) (drop j s)) = rw (allowed .0) (comment-gap (drop j s) (allowed .1) ∙ comment-line (drop j s)) in
+        let line : gap program (drop j s) ≡ prefixLen inLine (drop j s) + gap program (drop (prefixLen inLine (drop j s)) (drop j s)) = rw (allowed .0) (comment-gap (drop j s) (allowed .1) ∙ comment-line (drop j s)) in
         behind-blanks ∙ rw (ek, ← (drop-drop (prefixLen inLine (drop j s)) j s), line) (omega arith)
 
     pub comment-inside : (j < length s) × (j < k)

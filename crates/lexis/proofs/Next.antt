@@ -115,24 +115,24 @@ stray-spells kind bytes e s = let q : kind ≡ Stray = sym (kind-of-spelled kind
 
 -- ---- the next token
 
-module _ (comments : Bool) (text : List ℕ) (at : ℕ) where
+module _ (program : Bool) (text : List ℕ) (at : ℕ) where
   abbrev next : Token
-  next = nextToken comments text at
+  next = nextToken program text at
 
   -- a token lies inside the text
   pub inside : next .place .start + next .place .len ≤ length text
   unfolding nextToken
-  inside = elim (found-or-end text (at + gap comments (drop at text))) [ inl f ↦ found-inside _ _ _ f | inr e ↦ rw (e .1) (omega arith) ]
+  inside = elim (found-or-end text (at + gap program (drop at text))) [ inl f ↦ found-inside _ _ _ f | inr e ↦ rw (e .1) (omega arith) ]
 
   -- the end stands at the text's length
   pub end-place : isEnd (next .kind) ≡ true → next ≡ placed End (length text) 0
   unfolding nextToken
-  end-place e = elim (found-or-end text (at + gap comments (drop at text))) [ inl f ↦ absurd (true≢false (sym e ∙ f .real)) | inr q ↦ q .1 ]
+  end-place e = elim (found-or-end text (at + gap program (drop at text))) [ inl f ↦ absurd (true≢false (sym e ∙ f .real)) | inr q ↦ q .1 ]
 
   -- any other token is the longest match behind the gap
-  pub next-found : isEnd (next .kind) ≡ false → Found text (at + gap comments (drop at text)) next
+  pub next-found : isEnd (next .kind) ≡ false → Found text (at + gap program (drop at text)) next
   unfolding nextToken
-  next-found e = elim (found-or-end text (at + gap comments (drop at text))) [ inl f ↦ f | inr q ↦ absurd (true≢false (sym (ap (λ (t : Token). isEnd (t .kind)) (q .1)) ∙ e)) ]
+  next-found e = elim (found-or-end text (at + gap program (drop at text))) [ inl f ↦ f | inr q ↦ absurd (true≢false (sym (ap (λ (t : Token). isEnd (t .kind)) (q .1)) ∙ e)) ]
 
   -- a token that is not the end has a byte
   pub not-empty : isEnd (next .kind) ≡ false → 1 ≤ next .place .len
@@ -185,7 +185,7 @@ module _ (comments : Bool) (text : List ℕ) (at : ℕ) where
   onward e = omega (arith, next-found e .start, not-empty e)
 
   -- the longest match behind the gap is the next token
-  pub next-is : (start : ℕ) (kind : Kind) (len : ℕ) → start ≡ at + gap comments (drop at text) → Longest (drop start text) kind len → next ≡ placed kind start len
+  pub next-is : (start : ℕ) (kind : Kind) (len : ℕ) → start ≡ at + gap program (drop at text) → Longest (drop start text) kind len → next ≡ placed kind start len
   unfolding nextToken
   next-is start kind len q l = rw (← q) (elim (found-or-end text start) [ inl f ↦ same f | inr e ↦ absurd (past (e .0)) ])
     where
@@ -200,5 +200,5 @@ module _ (comments : Bool) (text : List ℕ) (at : ℕ) where
   -- so a token that stands at the place is the next
   pub next-here : (kind : Kind) (len : ℕ) → isStray kind ≡ false → Longest (drop at text) kind len → next ≡ placed kind at len
   next-here kind len h l =
-      let z : gap comments (drop at text) ≡ 0 = token-no-gap comments (drop at text) len (ap isStray (l .spelled) ∙ h) in
+      let z : gap program (drop at text) ≡ 0 = token-no-gap program (drop at text) len (ap isStray (l .spelled) ∙ h) in
       next-is at kind len (omega arith) l

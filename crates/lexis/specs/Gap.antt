@@ -1,4 +1,4 @@
--- What stands between two tokens: blanks and, where they are allowed, comments.
+-- What stands between two tokens: blanks and, in a program, comments.
 use Prim.Native.Nat.{ℕ, suc}
 use mathlib.Core.Bool.{Bool, true, cond, not, _&&_}
 use mathlib.Core.List.{List, [], _∷_}
@@ -11,12 +11,12 @@ unfoldable pub startsComment : List ℕ → Bool
 startsComment text = eqb (getD text 0 0) 37 && not (eqb (getD text 1 0) 42)
 
 unfoldable mutual
-  -- how many bytes stand before the first token of a text
+  -- how many bytes stand before the first token of a program, or of a facts line
   pub gap : Bool → List ℕ → ℕ
-  gap comments [] = 0
-  gap comments (b ∷ rest) =
-      cond (isBlank b) (suc (gap comments rest))
-      (cond (comments && startsComment (b ∷ rest)) (suc (comment rest))
+  gap program [] = 0
+  gap program (b ∷ rest) =
+      cond (isBlank program b) (suc (gap program rest))
+      (cond (program && startsComment (b ∷ rest)) (suc (comment rest))
       0)
 
   -- the same in a comment, which runs to a newline or the end of the text

@@ -43,6 +43,6 @@ tokenFrom end at (b ∷ rest) = startAt at (classOf b) b rest
 unfoldable pub tokenAt : List ℕ → ℕ → Token
 tokenAt text at = tokenFrom (length text) at (drop at text)
 
--- the first token at or after a place, behind blanks and, where they are allowed, comments
+-- the first token at or after a place, behind the blanks and comments of a program, or the blanks of a facts line
 unfoldable pub nextToken : Bool → List ℕ → ℕ → Token
-nextToken comments text at = tokenAt text (at + gap comments (drop at text))
+nextToken program text at = tokenAt text (at + gap program (drop at text))

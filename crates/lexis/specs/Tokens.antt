@@ -18,15 +18,15 @@ after t = t .place .start + t .place .len
 
 -- the first `most` of the tokens from a place on
 unfoldable pub tokensUpTo : ℕ → Bool → List ℕ → ℕ → List Token
-tokensUpTo zero comments text at = []
-tokensUpTo (suc most) comments text at =
-    let t = nextToken comments text at in
-    elim (isEnd (t .kind)) [ true ↦ [] | false ↦ t ∷ tokensUpTo most comments text (after t) ]
+tokensUpTo zero program text at = []
+tokensUpTo (suc most) program text at =
+    let t = nextToken program text at in
+    elim (isEnd (t .kind)) [ true ↦ [] | false ↦ t ∷ tokensUpTo most program text (after t) ]
 
 -- the tokens from a place on, without the end: none where the next one is the end, else the next one and those behind it
 -- (`tokens-end`, `tokens-more`; each token has a byte, so there are no more of them than bytes)
 unfoldable pub tokensFrom : Bool → List ℕ → ℕ → List Token
-tokensFrom comments text at = tokensUpTo (suc (length text - at)) comments text at
+tokensFrom program text at = tokensUpTo (suc (length text - at)) program text at
 
 -- from a place to an end: each token starts where the one before it ended or later, and has a byte
 abbrev pub InOrder : ℕ → ℕ → List Token → Type 0

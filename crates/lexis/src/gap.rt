@@ -1,6 +1,5 @@
 // What stands between two tokens: blanks and comments.
 ghost use mathlib.Core.Path.{_≡_};
-ghost use mathlib.Core.Bool.{_&&_};
 ghost use Prim.Native.Nat.{_+_};
 ghost use lib.ListN.{drop};
 ghost use Rattle.lexis.specs.Gap.{startsComment, gap};
@@ -8,27 +7,28 @@ use crate::run::Run;
 use crate::run::byte_at;
 use crate::run::run_end;
 
-// Does a comment start at `at`, where comments are allowed? At `%*` none does.
-fn starts_comment(text: &[u8], at: usize, comments: bool) -> bool
-    ensures { λ r. ⌜ r ≡ (comments && startsComment (drop at (now (text .entry)))) ⌝ }
+// Does a comment start at `at`? At `%*` none does.
+fn starts_comment(text: &[u8], at: usize) -> bool
+    ensures { λ r. ⌜ r ≡ startsComment (drop at (now (text .entry))) ⌝ }
 {
-    if !comments {
-        return false;
-    }
     if byte_at(text, at) != b'%' {
         return false;
     }
     byte_at(text, at + 1) != b'*'
 }
 
-// The first place at or after `at` that is neither a blank nor in a comment: where a token starts, or none can.
-pub fn gap_end(text: &[u8], at: usize, comments: bool) -> usize
-    ensures { λ r. ⌜ r ≡ at + gap comments (drop at (now (text .entry))) ⌝ }
+// The first place at or after `at` where a token starts, or none can: behind the blanks of a facts line, or the blanks and comments
+// of a program.
+pub fn gap_end(text: &[u8], at: usize, program: bool) -> usize
+    ensures { λ r. ⌜ r ≡ at + gap program (drop at (now (text .entry))) ⌝ }
 {
+    if !program {
+        return run_end(text, at, Run::LineBlanks);
+    }
     let mut end = at;
     loop {
         end = run_end(text, end, Run::Blanks);
-        if !starts_comment(text, end, comments) {
+        if !starts_comment(text, end) {
             return end;
         }
         end = run_end(text, end, Run::Line);

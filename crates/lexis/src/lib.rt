@@ -97,10 +97,10 @@ fn token_at(text: &[u8], at: usize) -> Token
     }
 }
 
-// The first token at or after `at`. Where comments are not allowed, and at `%*`, a `%` is a stray byte. At the end of the text,
-// and for `at` past it, the token is `End`, empty at the text's length.
-pub fn next_token(text: &[u8], at: usize, comments: bool) -> Token
-    ensures { λ r. ⌜ r ≡ nextToken comments (now (text .entry)) at ⌝ }
+// The first token at or after `at`, in a program or on a facts line. At `%*`, and on a facts line, a `%` is a stray byte, and so is
+// a newline there. At the end of the text, and for `at` past it, the token is `End`, empty at the text's length.
+pub fn next_token(text: &[u8], at: usize, program: bool) -> Token
+    ensures { λ r. ⌜ r ≡ nextToken program (now (text .entry)) at ⌝ }
 {
-    token_at(text, gap::gap_end(text, at, comments))
+    token_at(text, gap::gap_end(text, at, program))
 }

@@ -10,20 +10,22 @@ use crate::class::is_word;
 // The sorts of bytes that make a run.
 pub enum Run {
     Blanks,
+    // the blanks that may stand on a line
+    LineBlanks,
     // what is left of a line, without its newline
     Line,
     Word,
     Digits,
 }
 
-// Is the byte a space, a tab or a newline?
-fn is_blank(byte: u8) -> bool
-    ensures { λ r. ⌜ r ≡ isBlank byte ⌝ }
+// Is the byte a blank: a space, a tab or, in a program, a newline?
+fn is_blank(byte: u8, program: bool) -> bool
+    ensures { λ r. ⌜ r ≡ isBlank program byte ⌝ }
 {
     match byte {
         b' ' => true,
         b'\t' => true,
-        b'\n' => true,
+        b'\n' => program,
         _ => false,
     }
 }
@@ -33,7 +35,8 @@ fn goes_on(run: Run, byte: u8) -> bool
     ensures { λ r. ⌜ r ≡ goesOn run byte ⌝ }
 {
     match run {
-        Run::Blanks => is_blank(byte),
+        Run::Blanks => is_blank(byte, true),
+        Run::LineBlanks => is_blank(byte, false),
         Run::Line => byte != b'\n',
         Run::Word => is_word(class_of(byte)),
         Run::Digits => is_digit(class_of(byte)),

@@ -46,7 +46,7 @@ token-of Stray b = stray (getD b 0 0)
 abbrev pub placed-token : Bytes → TextToken → Placed Place Token
 placed-token text t = record { token = token-of (t .kind) (part text (t .place)); place = t .place }
 
--- the tokens from a place on; comments may stand in a program, and not on a facts line
+-- the tokens from a place on; comments and newlines may stand in a program, and not on a facts line
 abbrev pub placed-from : Bool → Bytes → ℕ → List (Placed Place Token)
 placed-from ground text at = map (placed-token text) (tokensFrom (not ground) text at)
 

@@ -19,7 +19,7 @@ pub struct Progress {
     pub next: usize,
 }
 
-// The first token at or after `at`. `ground`: the text is a facts line, where no comment may stand.
+// The first token at or after `at`. `ground`: the text is a facts line, where neither a comment nor a newline may stand.
 pub fn token_at(text: &[u8], at: usize, ground: bool) -> TokenRead
     ensures { λ r. ⌜ r ≡ tokenRead ground (now (text .entry)) at ⌝ }
 {

@@ -17,8 +17,14 @@ is-blank-requires c κs = search needs
 enum-told-2 : tie.Need-enum-told-2
 enum-told-2 c = search needs
 
+is-blank-requires-2 : tie.Need-is-blank-requires-2
+is-blank-requires-2 c κs = search needs
+
 enum-told-3 : tie.Need-enum-told-3
 enum-told-3 c = search needs
+
+enum-told-4 : tie.Need-enum-told-4
+enum-told-4 c = search needs
 
 class-of-requires : tie.Need-class-of-requires
 class-of-requires c κs = search needs
@@ -26,8 +32,8 @@ class-of-requires c κs = search needs
 is-word-requires : tie.Need-is-word-requires
 is-word-requires c κs = search needs
 
-enum-told-4 : tie.Need-enum-told-4
-enum-told-4 c = search needs
+enum-told-5 : tie.Need-enum-told-5
+enum-told-5 c = search needs
 
 class-of-requires-2 : tie.Need-class-of-requires-2
 class-of-requires-2 c κs = search needs
@@ -39,14 +45,17 @@ returns : tie.Need-returns
 returns c = c .is-blank .ensures ∙ ap (λ (r : Run). goesOn r (c .before .before .before .args .byte)) (sym (c .before .enum-told .given .1))
 
 returns-2 : tie.Need-returns-2
-unfolding inLine
-returns-2 c = ap (λ (r : Run). goesOn r (c .before .before .args .byte)) (sym (c .enum-told2 .given .1))
+returns-2 c = c .is-blank2 .ensures ∙ ap (λ (r : Run). goesOn r (c .before .before .before .args .byte)) (sym (c .before .enum-told2 .given .1))
 
 returns-3 : tie.Need-returns-3
-returns-3 c = c .is-word .ensures ∙ ap isWord (c .before .class-of .ensures) ∙ ap (λ (r : Run). goesOn r (c .before .before .before .before .args .byte)) (sym (c .before .before .enum-told3 .given .1))
+unfolding inLine
+returns-3 c = ap (λ (r : Run). goesOn r (c .before .before .args .byte)) (sym (c .enum-told3 .given .1))
 
 returns-4 : tie.Need-returns-4
-returns-4 c = c .is-digit .ensures ∙ ap isDigit (c .before .class-of2 .ensures) ∙ ap (λ (r : Run). goesOn r (c .before .before .before .before .args .byte)) (sym (c .before .before .enum-told4 .given .1))
+returns-4 c = c .is-word .ensures ∙ ap isWord (c .before .class-of .ensures) ∙ ap (λ (r : Run). goesOn r (c .before .before .before .before .args .byte)) (sym (c .before .before .enum-told4 .given .1))
+
+returns-5 : tie.Need-returns-5
+returns-5 c = c .is-digit .ensures ∙ ap isDigit (c .before .class-of2 .ensures) ∙ ap (λ (r : Run). goesOn r (c .before .before .before .before .args .byte)) (sym (c .before .before .enum-told5 .given .1))
 
 pub goes-on-spec : {M : Type 1} → statement M
 goes-on-spec =
@@ -55,13 +64,16 @@ goes-on-spec =
     enum-told
     is-blank-requires
     enum-told-2
+    is-blank-requires-2
     enum-told-3
+    enum-told-4
     class-of-requires
     is-word-requires
-    enum-told-4
+    enum-told-5
     class-of-requires-2
     is-digit-requires
     returns
     returns-2
     returns-3
-    returns-4)
+    returns-4
+    returns-5)

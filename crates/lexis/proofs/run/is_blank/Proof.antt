@@ -8,15 +8,15 @@ use Rattle.lexis.proofs.run.is_blank.Tie as tie
 
 returns : tie.Need-returns
 unfolding isBlank
-returns c = sym (ap isBlank (c .match .keys1))
+returns c = sym (ap (isBlank (c .before .args .program)) (c .match .keys1))
 
 returns-2 : tie.Need-returns-2
 unfolding isBlank
-returns-2 c = sym (ap isBlank (c .match .keys2))
+returns-2 c = sym (ap (isBlank (c .before .args .program)) (c .match .keys2))
 
 returns-3 : tie.Need-returns-3
 unfolding isBlank
-returns-3 c = sym (ap isBlank (c .match .keys3))
+returns-3 c = sym (ap (isBlank (c .before .args .program)) (c .match .keys3))
 
 returns-4 : tie.Need-returns-4
 unfolding isBlank
