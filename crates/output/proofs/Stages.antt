@@ -1,16 +1,19 @@
 -- What the functions that read an output return, by the tests that led there.
 use mathlib.Core.Path.{_≡_, refl, sym as inv, ap, subst, _∙_}
-use mathlib.Core.Bool.{true}
+use mathlib.Core.Bool.{true, cond}
 use mathlib.Core.List.{List, [], _∷_}
 use Prim.Native.Nat.{ℕ, _+_, _≤_, _<_}
 use native.Mathlib.Omega.{arith}
 use lib.ListN.{length, length-take, length-drop}
+use borrow.Author.Tests.{eq-eqb, ne-eqb}
 use Rattle.lexis.specs.declared.Place.{Place}
 use Rattle.lexis.specs.Tokens.{part}
+use Rattle.reading.specs.Reading.{refused as refused-tree}
 use Rattle.meaning.specs.Rules.{Bytes}
 use Rattle.grammar.specs.Trees.{Program}
 use Rattle.lexis.specs.Places.{nowhere}
 use Rattle.lexis.specs.Sizes.{most-text}
+use Rattle.syntax.specs.Programs.{ReadAs}
 use Rattle.sentences.proofs.Inside.{refused-inside}
 use Rattle.report.specs.declared.Report.{Report as ReportRead}
 use Rattle.report.specs.declared.word.Word.{Word}
@@ -28,17 +31,23 @@ use Rattle.rows.proofs.Growth.{room-less}
 use Rattle.factline.specs.Lines.{Fillable, FillsLine, whole, refuses}
 use Rattle.output.specs.declared.OutputRead.{OutputRead}
 use Rattle.output.specs.Output.{Report, facts, claim-none, claim-unknown, Opened, Opening, opens, on-line, Closing, Behind}
-use Rattle.output.specs.Answers.{refused as refused-fields, reported as reported-fields, report-fields, Closes}
+use Rattle.output.specs.Answers.{refused as refused-fields, reported as reported-fields, report-fields, line-fields, Closes}
 use Rattle.output.specs.Tables.{Tables, Lent, FactsHeld, Fills, FillsOutput}
 
 -- ---- the lines behind the report
 
-module _ (text : Bytes) (at : ℕ) (f : Found) (o : OutOfPlace text at f) (before : OutputRead) where
-  pub closed-idle : f ≡ Nothing → Closes text at before before
+module _ (text : Bytes) (at : ℕ) (f : Found) (o : OutOfPlace text at f) (said : OutputRead) where
+  pub closed-idle : f ≡ Nothing → Closes text at said said
   closed-idle e = Closes.closes (rw e at o) refl
 
-  pub closed-stray : (line : Place) → f ≡ Line line → (r : OutputRead) → r ≡ refused-fields 2 line → Closes text at before r
-  closed-stray line e r q = Closes.stray line (rw e at o) q
+  pub closed-stray : said .code ≡ 0 → (line : Place) → f ≡ Line line → (r : OutputRead) → r ≡ refused-fields 2 line → Closes text at said r
+  closed-stray z line e r q = Closes.stray z line (rw e at o) q
+
+-- a report is no refusal
+report-code : (x : Report) → report-fields x .code ≡ 0
+report-code (facts line fs) = refl
+report-code claim-none = refl
+report-code claim-unknown = refl
 
 -- a report that claims only
 none-claims : (line : Place) (fs : Program true) → claim-none ≡ facts line fs → ⊥
@@ -52,17 +61,18 @@ module _ (program text : Bytes) (t u : Tables) where
   refusal-fills : {S : Stage Report} (n : ℕ) (p : Part) → S (stop n p) → (r : OutputRead) → r ≡ refused-fields n (p .place) → Fills S program text t r u
   refusal-fills n p h r q = record { given = record { outcome = stop n p; stage = h; so = q }; filled = λ line fs e. absurd (on-stop (inv e)) }
 
-  -- what has been read is a report, and where it has facts the tables hold them
-  module _ (at : ℕ) (before : OutputRead) (x : Report) (e : before ≡ report-fields x) (held : (line : Place) (fs : Program true) → x ≡ facts line fs → FactsHeld program text line fs t (before .count) u) (r : OutputRead) where
-    closing-fills : Closes text at before r → Fills (Closing x text at) program text t r u
+  -- what has been said is a report, and where it has facts the tables hold them
+  module _ (at : ℕ) (said : OutputRead) (x : Report) (e : said ≡ report-fields x) (held : (line : Place) (fs : Program true) → x ≡ facts line fs → FactsHeld program text line fs t (said .count) u) (r : OutputRead) where
+    closing-fills : Closes text at said r → Fills (Closing x text at) program text t r u
+    closing-fills (Closes.refuses n q) = absurd (n (ap (λ (y : OutputRead). y .code) e ∙ report-code x))
     closing-fills (Closes.closes o q) = record { given = record { outcome = on x; stage = Closing.closes o; so = q ∙ e }; filled = λ line fs y. rw q (held line fs (on-inj y)) }
-    closing-fills (Closes.stray line o q) = refusal-fills 2 (in-text output line) (Closing.stray line o) r q
+    closing-fills (Closes.stray z line o q) = refusal-fills 2 (in-text output line) (Closing.stray line o) r q
 
-  pub closing-none : (at : ℕ) (before : OutputRead) → before ≡ report-fields claim-none → (r : OutputRead) → Closes text at before r → Fills (Closing claim-none text at) program text t r u
-  closing-none at before e r = closing-fills at before claim-none e (λ line fs y. absurd (none-claims line fs y)) r
+  pub closing-none : (at : ℕ) (said : OutputRead) → said ≡ report-fields claim-none → (r : OutputRead) → Closes text at said r → Fills (Closing claim-none text at) program text t r u
+  closing-none at said e r = closing-fills at said claim-none e (λ line fs y. absurd (none-claims line fs y)) r
 
-  pub closing-unknown : (at : ℕ) (before : OutputRead) → before ≡ report-fields claim-unknown → (r : OutputRead) → Closes text at before r → Fills (Closing claim-unknown text at) program text t r u
-  closing-unknown at before e r = closing-fills at before claim-unknown e (λ line fs y. absurd (unknown-claims line fs y)) r
+  pub closing-unknown : (at : ℕ) (said : OutputRead) → said ≡ report-fields claim-unknown → (r : OutputRead) → Closes text at said r → Fills (Closing claim-unknown text at) program text t r u
+  closing-unknown at said e r = closing-fills at said claim-unknown e (λ line fs y. absurd (unknown-claims line fs y)) r
 
   -- ---- behind ANSWER
 
@@ -81,24 +91,30 @@ module _ (program text : Bytes) (t u : Tables) where
         go (whole c p fs h w) = let z : f .place .start ≡ 0 = ap (λ (x : Place). x .start) p in omega (arith, ask .inside, ask .room .in-order .output-size)
         go (refuses c n h) = omega (arith, refused-inside true (part text line) (f .code) (f .place) h, line-length, ask .inside, ask .room .in-order .output-size)
 
-    pub answer-refused : (next : ℕ) → (f .code ≡ 0 → ⊥) → (place : Place) → place ≡ on-line line (f .place) → (r : OutputRead) → r ≡ refused-fields (f .code) place → Fills (Behind text Answer line next) program text t r u
-    answer-refused next e place p r q = go g
+    -- a refusal of the line stays, whatever stands behind it
+    answer-refused : (next : ℕ) → (f .code ≡ 0 → ⊥) → ReadAs true (part text line) (refused-tree (f .code) (f .place)) → (said : OutputRead) → said ≡ refused-fields (f .code) (on-line line (f .place)) → (r : OutputRead) → Closes text next said r → Fills (Behind text Answer line next) program text t r u
+    answer-refused next n h said e r k = refusal-fills (f .code) (in-text output (on-line line (f .place))) (stops _ _ (fault (f .code) (f .place) h)) r (stays k ∙ e)
       where
-        go : Line-read → Fills (Behind text Answer line next) program text t r u
-        go (whole c d fs h w) = absurd (e c)
-        go (refuses c n h) = refusal-fills (f .code) (in-text output (on-line line (f .place))) (stops _ _ (fault (f .code) (f .place) h)) r (q ∙ ap (refused-fields (f .code)) p)
+        stays : Closes text next said r → r ≡ said
+        stays (Closes.refuses m q) = q
+        stays (Closes.closes o q) = q
+        stays (Closes.stray z l o q) = absurd (n (inv (ap (λ (y : OutputRead). y .code) e) ∙ z))
 
-    pub answer-closed : (next : ℕ) → f .code ≡ 0 → (before : OutputRead) → before ≡ reported-fields Answer (f .count) → (r : OutputRead) → Closes text next before r → Fills (Behind text Answer line next) program text t r u
-    answer-closed next e before q r k = go g
+    pub answer-closed : (next : ℕ) (said : OutputRead) → said ≡ line-fields line f → (r : OutputRead) → Closes text next said r → Fills (Behind text Answer line next) program text t r u
+    answer-closed next said q r k = go g
       where
-        held : (fs : Program true) → FactsHeld program text line fs t (f .count) u → (l : Place) (gs : Program true) → facts line fs ≡ facts l gs → FactsHeld program text l gs t (before .count) u
-        held fs w l gs y = let a : line ≡ l = cc in let b : fs ≡ gs = cc in let n : before .count ≡ f .count = ap (λ (x : OutputRead). x .count) q in rw (← a, ← b, n) w
+        held : (fs : Program true) → said ≡ reported-fields Answer (f .count) → FactsHeld program text line fs t (f .count) u → (l : Place) (gs : Program true) → facts line fs ≡ facts l gs → FactsHeld program text l gs t (said .count) u
+        held fs e w l gs y = let a : line ≡ l = cc in let b : fs ≡ gs = cc in let n : said .count ≡ f .count = ap (λ (x : OutputRead). x .count) e in rw (← a, ← b, n) w
 
         go : Line-read → Fills (Behind text Answer line next) program text t r u
         go (whole c p fs h w) =
-            let d = closing-fills next before (facts line fs) (q ∙ ap (reported-fields Answer) (w .size)) (held fs w) r k in
+            let e : said ≡ reported-fields Answer (f .count) = q ∙ ap (λ b. cond b (reported-fields Answer (f .count)) (refused-fields (f .code) (on-line line (f .place)))) (eq-eqb (f .code) 0 c) in
+            let d = closing-fills next said (facts line fs) (e ∙ ap (reported-fields Answer) (w .size)) (held fs e w) r k in
             record { given = record { outcome = d .given .outcome; stage = goes fs (d .given .outcome) (read fs h) (d .given .stage); so = d .given .so }; filled = d .filled }
-        go (refuses c n h) = absurd (omega arith)
+        go (refuses c n h) =
+            let some : f .code ≡ 0 → ⊥ = λ z. omega arith in
+            let e : said ≡ refused-fields (f .code) (on-line line (f .place)) = q ∙ ap (λ b. cond b (reported-fields Answer (f .count)) (refused-fields (f .code) (on-line line (f .place)))) (ne-eqb (f .code) 0 some) in
+            answer-refused next some h said e r k
 
 -- ---- the whole
 

@@ -1,6 +1,8 @@
 -- The fields of an answer, and what the functions that read an output promise.
 use mathlib.Core.Path.{_≡_}
+use mathlib.Core.Bool.{cond}
 use Prim.Native.Nat.{ℕ}
+use lib.Dec.{eqb}
 use Rattle.lexis.specs.declared.Place.{Place}
 use Rattle.meaning.specs.Rules.{Bytes}
 use Rattle.grammar.specs.Trees.{count}
@@ -10,8 +12,9 @@ use Rattle.report.specs.declared.word.Word.the-variants.{Answer, Inconsistent, 
 use Rattle.report.specs.declared.around.Found.the-variants.{Nothing, Line}
 use Rattle.report.specs.Around.{OutOfPlace}
 use Rattle.stages.specs.Stage.{Outcome, on, stop, Stage}
+use Rattle.factline.specs.declared.line.FactsRead.{FactsRead}
 use Rattle.output.specs.declared.OutputRead.{OutputRead}
-use Rattle.output.specs.Output.{Report, facts, claim-none, claim-unknown, OutputStage}
+use Rattle.output.specs.Output.{Report, facts, claim-none, claim-unknown, on-line, OutputStage}
 
 -- ---- fields that an answer does not name are zero, or the word that claims nothing
 
@@ -40,7 +43,12 @@ pub record GivenBy (S : Stage Report) (r : OutputRead) : Type 0 where
 abbrev pub ReadsOutput : Bytes → OutputRead → Type 0
 ReadsOutput text r = GivenBy (OutputStage text) r
 
--- what has been read, or 2 at the first line that may not stand behind the report
-pub data Closes (text : Bytes) (at : ℕ) (read r : OutputRead) : Type 0 where
-  closes : OutOfPlace text at Nothing → r ≡ read → Closes text at read r
-  stray : (line : Place) → OutOfPlace text at (Line line) → r ≡ refused 2 line → Closes text at read r
+-- a facts line's refusal, at its place in the output, or its number of facts
+abbrev pub line-fields : Place → FactsRead → OutputRead
+line-fields line f = cond (eqb (f .code) 0) (reported Answer (f .count)) (refused (f .code) (on-line line (f .place)))
+
+-- what has been said before; or, where that is no refusal, 2 at the first line that may not stand behind the report
+pub data Closes (text : Bytes) (at : ℕ) (said r : OutputRead) : Type 0 where
+  refuses : (said .code ≡ 0 → ⊥) → r ≡ said → Closes text at said r
+  closes : OutOfPlace text at Nothing → r ≡ said → Closes text at said r
+  stray : said .code ≡ 0 → (line : Place) → OutOfPlace text at (Line line) → r ≡ refused 2 line → Closes text at said r

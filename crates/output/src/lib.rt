@@ -5,8 +5,9 @@ ghost use Rattle.lexis.specs.Sizes.{most-text};
 ghost use Rattle.report.specs.declared.word.Word.the-variants.{Answer};
 ghost use Rattle.factline.specs.Lines.{Fillable};
 ghost use Rattle.output.specs.Output.{on-line, Behind};
-ghost use Rattle.output.specs.Answers.{refused, reported, Closes};
+ghost use Rattle.output.specs.Answers.{refused, reported, line-fields, Closes};
 ghost use Rattle.output.specs.Tables.{tables, Lent, Fills, FillsOutput};
+use factline::line::FactsRead;
 use factline::line::read_line;
 use lexis::NOWHERE;
 use lexis::Place;
@@ -62,13 +63,29 @@ fn on_line(line: Place, place: Place) -> Place
     place_from(line.start + place.start, place.len)
 }
 
-// What has been read, where each line from `at` on may stand behind the report; else the refusal of the first that may not.
-fn closed(output: &[u8], at: usize, read: OutputRead) -> OutputRead
-    ensures { λ r. ⌜ Closes (now (output .entry)) at read r ⌝ }
+// What a facts line says: its refusal, at its place in the output, or ANSWER and the number of its facts.
+fn of_line(line: Place, read: FactsRead) -> OutputRead
+    requires { ⌜ line .start + read .place .start ≤ most-text ⌝ }
+    ensures { λ r. ⌜ r ≡ line-fields line read ⌝ }
 {
+    if read.code != 0 {
+        let place = read.place;
+        return refused(read.code, on_line(line, place));
+    }
+    reported(Word::Answer, read.count)
+}
+
+// What has been said before the lines from `at` on. Where that is no refusal, the first of them that may not stand behind the report is
+// refused.
+fn closed(output: &[u8], at: usize, said: OutputRead) -> OutputRead
+    ensures { λ r. ⌜ Closes (now (output .entry)) at said r ⌝ }
+{
+    if said.code != 0 {
+        return said;
+    }
     let found = out_of_place(output, at);
     match found {
-        Found::Nothing => read,
+        Found::Nothing => said,
         Found::Line(line) => refused(OUT_OF_PLACE, line),
     }
 }
@@ -98,11 +115,7 @@ fn answered<'a>(
         starts,
         lengths,
     );
-    if read.code != 0 {
-        let place = read.place;
-        return refused(read.code, on_line(line, place));
-    }
-    closed(output, next, reported(Word::Answer, read.count))
+    closed(output, next, of_line(line, read))
 }
 
 // The whole output: 1; the leftmost of 2, 3 and 4; or the report, and behind ANSWER the facts line and its facts, which go into

@@ -61,6 +61,15 @@ pub record Going (text output : Bytes) (names₀ rules₀ literals₀ : List ℕ
 
 -- ---- the whole answer
 
+-- by what is remembered of n rules
+abbrev answer : Found → ℕ → ProgramRead
+answer u n = cond (u .found) (refusal 5 (u .place)) (readRules n)
+
+-- where there is no rule, nothing more is remembered
+nothing-more : (u : Found) (n : ℕ) (b : Bool) → u .found ≡ b → answer (cond b u no-unbound) n ≡ answer u n
+nothing-more u n true e = refl
+nothing-more u n false e = inv (ap (λ (t : Bool). cond t (refusal 5 (u .place)) (readRules n)) e)
+
 in-size : (text : Bytes) → length text ≤ most-text → most-text < length text → ⊥
 in-size text fits h = omega arith
 
@@ -127,12 +136,12 @@ module _ (text output : Bytes) (names₀ rules₀ literals₀ : List ℕ) (fits 
         where
           go : PutsRule text output names rules literals (start k) r names′ rules′ literals′ → ReadsProgram text output names₀ rules₀ literals₀ (refusal (r .progress .code) (r .progress .place)) names′ rules′ literals′
           go (read c d o x s q) = absurd (ne c)
-          go (ended c d i j l q) = absurd (ne c)
+          go (ended c d b i j l q) = absurd (ne c)
           go (stopped c q) = refuses fits _ _ (g .walks ∙ q place)
 
       module _ (e : r .progress .code ≡ 0) where
-        pub at-end : r .ended ≡ true → (a : ProgramRead) → a ≡ cond (u .found) (refusal 5 (u .place)) (readRules n) → ReadsProgram text output names₀ rules₀ literals₀ a names′ rules′ literals′
-        at-end z a ea = rw (ea, ← (g .size)) (go put)
+        pub at-end : r .ended ≡ true → (v : Found) → v ≡ cond (u .found) u (r .unbound) → (a : ProgramRead) → a ≡ cond (v .found) (refusal 5 (v .place)) (readRules n) → ReadsProgram text output names₀ rules₀ literals₀ a names′ rules′ literals′
+        at-end z v ev a ea = go put
           where
             all : Remembered (rules-for (g .trees)) (tokens-of text) (end-of text) (length (g .before)) u
             all = rw (append-nil (rules-for (g .trees))) at (g .remembered [])
@@ -140,9 +149,12 @@ module _ (text output : Bytes) (names₀ rules₀ literals₀ : List ℕ) (fits 
             fills : every safe (rules-for (g .trees)) ≡ true → FillsRules text output names₀ rules₀ literals₀ (g .trees) (count (g .trees)) names rules literals
             fills s = rw (g .size) (filled-whole text output names₀ rules₀ literals₀ asked fits (g .trees) at n names rules literals (g .filled) (g .size) (g .few) s)
 
-            go : PutsRule text output names rules literals (start k) r names′ rules′ literals′ → ReadsProgram text output names₀ rules₀ literals₀ (cond (u .found) (refusal 5 (u .place)) (readRules (count (g .trees)))) names′ rules′ literals′
+            still : r .unbound ≡ no-unbound → a ≡ answer u n
+            still b = ea ∙ ap (λ (w : Found). answer w n) (ev ∙ ap (cond (u .found) u) b) ∙ nothing-more u n (u .found) refl
+
+            go : PutsRule text output names rules literals (start k) r names′ rules′ literals′ → ReadsProgram text output names₀ rules₀ literals₀ a names′ rules′ literals′
             go (read c d o x s q) = absurd (false≢true (inv d ∙ z))
-            go (ended c d i j l q) = rw (i, j, l) (answers fits (g .trees) u (length (g .before)) (g .walks ∙ q (g .trees)) all (λ o m y. none-behind (rules-for (g .trees)) (g .before) (placed-from false text at) (g .ended) o m (rw (← (g .whole)) at y)) fills)
+            go (ended c d b i j l q) = rw (still b, ← (g .size), i, j, l) (answers fits (g .trees) u (length (g .before)) (g .walks ∙ q (g .trees)) all (λ o m y. none-behind (rules-for (g .trees)) (g .before) (placed-from false text at) (g .ended) o m (rw (← (g .whole)) at y)) fills)
             go (stopped c q) = absurd (omega arith)
 
         module _ (z : r .ended ≡ false) where
@@ -159,7 +171,7 @@ module _ (text output : Bytes) (names₀ rules₀ literals₀ : List ℕ) (fits 
             where
               go : PutsRule text output names rules literals (start k) r names′ rules′ literals′ → Next
               go (read c d o x s q) = record { room = leb-false 256 n o; tree-of = x; stands = s; behind = q place }
-              go (ended c d i j l q) = absurd (true≢false (inv d ∙ z))
+              go (ended c d b i j l q) = absurd (true≢false (inv d ∙ z))
               go (stopped c q) = absurd (omega arith)
 
           pub room : n < 256

@@ -59,7 +59,7 @@ module _ (program output : Bytes) (names variables rules literals : List ℕ) (s
       where
         go : FillsRule program output names variables literals (cursor-at s) (s .number) w names′ variables′ literals′ → Puts (refusedPut (w .progress) true) rules
         go (FillsRule.read c e o x h q) = absurd (false≢true (sym e ∙ t))
-        go (FillsRule.ended c e n l q) = PutsRule.ended c refl n refl l q
+        go (FillsRule.ended c e n l q) = PutsRule.ended c refl refl n refl l q
         go (FillsRule.stopped c q) = absurd (omega arith)
 
     module _ (t : w .ended ≡ false) where

@@ -65,7 +65,7 @@ pub record Stands (program output : Bytes) (names rules literals : List ℕ) (s 
 -- a rule, the end of the text, or a refusal
 pub data PutsRule (program output : Bytes) (names rules literals : List ℕ) (s : RuleStart) (r : RulePut) (names′ rules′ literals′ : List ℕ) : Type 0 where
   read : r .progress .code ≡ 0 → r .ended ≡ false → s .over ≡ false → (x : Tree false) → Stands program output names rules literals s x r names′ rules′ literals′ → ((h : RulePlace false (s .over)) → behind-rules false program (h .rules) (s .at) ≡ behind-rules false program (h .rules then x) (r .progress .next)) → PutsRule program output names rules literals s r names′ rules′ literals′
-  ended : r .progress .code ≡ 0 → r .ended ≡ true → names′ ≡ names → rules′ ≡ rules → literals′ ≡ literals → ((p : Program false) → behind-rules false program p (s .at) ≡ tree p) → PutsRule program output names rules literals s r names′ rules′ literals′
+  ended : r .progress .code ≡ 0 → r .ended ≡ true → r .unbound ≡ no-unbound → names′ ≡ names → rules′ ≡ rules → literals′ ≡ literals → ((p : Program false) → behind-rules false program p (s .at) ≡ tree p) → PutsRule program output names rules literals s r names′ rules′ literals′
   stopped : 2 ≤ r .progress .code → ((h : RulePlace false (s .over)) → behind-rules false program (h .rules) (s .at) ≡ refused (r .progress .code) (r .progress .place)) → PutsRule program output names rules literals s r names′ rules′ literals′
 
 abbrev pub refusedPut : Progress → Bool → RulePut

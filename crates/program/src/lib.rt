@@ -96,11 +96,11 @@ fn read_rules<'a>(
         if progress.code != 0 {
             return refused(progress.code, place);
         }
+        let here = read.unbound;
+        unbound = earlier(unbound, here);
         if read.ended {
             return finished(unbound, count);
         }
-        let here = read.unbound;
-        unbound = earlier(unbound, here);
         at = progress.next;
         count += 1;
     }

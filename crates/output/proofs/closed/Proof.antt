@@ -1,8 +1,14 @@
--- `closed` meets its contract. Assumes nothing.
+-- `closed` meets its contract: a refusal stays, and only behind what is none a line is looked for. Assumes nothing.
+use native.Mathlib.Omega.{arith}
+use mathlib.Core.Path.{refl}
+use Rattle.output.specs.Answers.{Closes}
 use Rattle.output.proofs.Stages.{closed-idle, closed-stray}
 use borrow.Author.Needs.{needs}
 use Rattle.output.proofs.closed.Statement.{statement}
 use Rattle.output.proofs.closed.Tie as tie
+
+returns : tie.Need-returns
+returns c = Closes.refuses (λ z. omega arith) refl
 
 out-of-place-requires : tie.Need-out-of-place-requires
 out-of-place-requires c κs = search needs
@@ -16,13 +22,13 @@ enum-known-found c = search needs
 refused-requires : tie.Need-refused-requires
 refused-requires c κs = search needs
 
-returns : tie.Need-returns
-returns c = closed-idle _ _ _ (c .before .before .out-of-place .ensures) _ (c .enum-told .given .1)
-
 returns-2 : tie.Need-returns-2
-returns-2 c = closed-stray _ _ _ (c .before .before .before .before .out-of-place .ensures) _ _ (c .before .before .found .given .1) _ (c .refused .ensures)
+returns-2 c = closed-idle _ _ _ (c .before .before .out-of-place .ensures) _ (c .enum-told .given .1)
+
+returns-3 : tie.Need-returns-3
+returns-3 c = closed-stray _ _ _ (c .before .before .before .before .out-of-place .ensures) _ (omega arith) _ (c .before .before .found .given .1) _ (c .refused .ensures)
 
 pub closed-spec : {M : Type 1} → statement M
 closed-spec =
     tie.close
-    (tie.spec out-of-place-requires enum-told enum-known-found refused-requires returns returns-2)
+    (tie.spec returns out-of-place-requires enum-told enum-known-found refused-requires returns-2 returns-3)

@@ -45,27 +45,30 @@ returns c =
     stops-there (start .args .program .now) (start .args .output .now) _ _ _ (start .pre .0) (start .pre .1) _ _ _ _ _ _ _ (begun .loop .inv) _ _ _ _ _ (turn .put-rule .ensures) (c .before .if1 .taken) _ (c .refused .ensures)
 
 same-length-4 : tie.Need-same-length-4 Inv-loop μ-loop
-same-length-4 c = search (needs, c .before .before .before .before .before .before .before .before .before .before .before .before .before .before .before .before .before .before .loop .inv .names-long)
+same-length-4 c = search (needs, c .before .before .before .before .before .before .before .before .before .before .before .before .before .before .before .before .before .before .before .before .loop .inv .names-long)
 
 same-length-5 : tie.Need-same-length-5 Inv-loop μ-loop
-same-length-5 c = search (needs, c .before .before .before .before .before .before .before .before .before .before .before .before .before .before .before .before .before .before .loop .inv .filled .rules-kept .long)
+same-length-5 c = search (needs, c .before .before .before .before .before .before .before .before .before .before .before .before .before .before .before .before .before .before .before .before .loop .inv .filled .rules-kept .long)
 
 same-length-6 : tie.Need-same-length-6 Inv-loop μ-loop
-same-length-6 c = search (needs, c .before .before .before .before .before .before .before .before .before .before .before .before .before .before .before .before .before .before .loop .inv .filled .literals-kept .long)
+same-length-6 c = search (needs, c .before .before .before .before .before .before .before .before .before .before .before .before .before .before .before .before .before .before .before .before .loop .inv .filled .literals-kept .long)
 
 returns-2 : tie.Need-returns-2 Inv-loop μ-loop
 returns-2 c =
-    let turn = c .before .before .before .before .before .before .before .before .before .before .before .before .before in
+    let if2 = c .before in
+    let earlier = if2 .before in
+    let if1 = earlier .before .before in
+    let turn = if1 .before .before .before .before .before .before .before .before .before .before .before in
     let begun = turn .before .before .before .before .before in
     let start = begun .before .before .before .before .before .before in
-    at-end (start .args .program .now) (start .args .output .now) _ _ _ (start .pre .0) (start .pre .1) _ _ _ _ _ _ _ (begun .loop .inv) _ _ _ _ _ (turn .put-rule .ensures) (c .before .before .if1 .left) (c .before .if2 .taken) _ (c .finished .ensures)
+    at-end (start .args .program .now) (start .args .output .now) _ _ _ (start .pre .0) (start .pre .1) _ _ _ _ _ _ _ (begun .loop .inv) _ _ _ _ _ (turn .put-rule .ensures) (if1 .if1 .left) (if2 .if2 .taken) _ (earlier .earlier .ensures) _ (c .finished .ensures)
 
 add-count : tie.Need-add-count Inv-loop μ-loop
 add-count c =
     let turn = c .before .before .before .before .before .before .before .before .before .before .before .before .before .before in
     let begun = turn .before .before .before .before .before in
     let start = begun .before .before .before .before .before .before in
-    let few = room (start .args .program .now) (start .args .output .now) _ _ _ (start .pre .0) (start .pre .1) _ _ _ _ _ _ _ (begun .loop .inv) _ _ _ _ _ (turn .put-rule .ensures) (c .before .before .before .if1 .left) (c .before .before .if2 .left) in
+    let few = room (start .args .program .now) (start .args .output .now) _ _ _ (start .pre .0) (start .pre .1) _ _ _ _ _ _ _ (begun .loop .inv) _ _ _ _ _ (turn .put-rule .ensures) (c .before .before .before .if1 .left) (c .if2 .left) in
     omega arith
 
 loop-less : tie.Need-loop-less Inv-loop μ-loop
@@ -73,7 +76,7 @@ loop-less c =
     let turn = c .before .before .before .before .before .before .before .before .before .before .before .before .before .before in
     let begun = turn .before .before .before .before .before in
     let start = begun .before .before .before .before .before .before in
-    let few = room (start .args .program .now) (start .args .output .now) _ _ _ (start .pre .0) (start .pre .1) _ _ _ _ _ _ _ (begun .loop .inv) _ _ _ _ _ (turn .put-rule .ensures) (c .before .before .before .if1 .left) (c .before .before .if2 .left) in
+    let few = room (start .args .program .now) (start .args .output .now) _ _ _ (start .pre .0) (start .pre .1) _ _ _ _ _ _ _ (begun .loop .inv) _ _ _ _ _ (turn .put-rule .ensures) (c .before .before .before .if1 .left) (c .if2 .left) in
     omega arith
 
 loop-again : tie.Need-loop-again Inv-loop μ-loop
@@ -81,7 +84,7 @@ loop-again c =
     let turn = c .before .before .before .before .before .before .before .before .before .before .before .before .before .before in
     let begun = turn .before .before .before .before .before in
     let start = begun .before .before .before .before .before .before in
-    goes-on (start .args .program .now) (start .args .output .now) _ _ _ (start .pre .0) (start .pre .1) _ _ _ _ _ _ _ (begun .loop .inv) _ _ _ _ _ (turn .put-rule .ensures) (c .before .before .before .if1 .left) (c .before .before .if2 .left) refl (search (needs, begun .loop .inv .names-long)) _ (search (needs, begun .loop .inv .variables-long)) _ (c .earlier .ensures)
+    goes-on (start .args .program .now) (start .args .output .now) _ _ _ (start .pre .0) (start .pre .1) _ _ _ _ _ _ _ (begun .loop .inv) _ _ _ _ _ (turn .put-rule .ensures) (c .before .before .before .if1 .left) (c .if2 .left) refl (search (needs, begun .loop .inv .names-long)) _ (search (needs, begun .loop .inv .variables-long)) _ (c .before .earlier .ensures)
 
 pub read-rules-spec : {M : Type 1} → statement M
 read-rules-spec =
@@ -98,11 +101,11 @@ read-rules-spec =
     same-length-3
     returns
     (λ c κs. search needs)
+    (λ c κs. search needs)
     same-length-4
     same-length-5
     same-length-6
     returns-2
-    (λ c κs. search needs)
     add-count
     loop-less
     loop-again)
