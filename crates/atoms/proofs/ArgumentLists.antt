@@ -171,7 +171,7 @@ module _ (program output text : Bytes) (names₀ variables₀ : List ℕ) (k : C
           where
             go : Separates (k .ground) text (r .progress .next) 6 s → Fills (arguments-in (k .ground)) false text (k .at) v₀ (s .progress) v″ S
             go (comma y q) = absurd (ne (rw q))
-            go (last y q) = absurd (ne (rw q))
+            go (last x y q) = absurd (ne (rw q))
             go (neither y l q) = rw q (stopped (omega arith) (λ h. ap (λ a. a .answer) (grown .walks h) ∙ wrong-token (k .ground) text (r .progress .next) t refl (wants (term-read (argument-in (h .context) (h .negative) (h .name) (g .terms)) (grown .one))) v′ (rw (ne-eqb (t .kind) 7 y, ne-eqb (t .kind) 6 l)) (λ z. refl)))
 
         behind : (j : ℕ) → t .kind ≡ j → (j ≡ 20 → ⊥) → r .progress .next ≤ t .next
@@ -191,7 +191,7 @@ module _ (program output text : Bytes) (names₀ variables₀ : List ℕ) (k : C
             go : Separates (k .ground) text (r .progress .next) 6 s → ReadsArguments program output text names₀ variables₀ k (goneArguments (set codes n (r .number)) (n + 1) (s .progress .next) (r .met)) names′ variables′
             go (comma y q) = absurd (false≢true (rw q at l))
             go (neither y y′ q) = absurd (false≢true (rw q at l))
-            go (last y q) = let b = behind 6 y (λ a. omega arith) in rw q (read refl (let a = grown .onward in let c = g .onward in omega arith) (within (k .ground) text (r .progress .next) t refl) refl (grown .fits) (arguments (g .terms) (grown .one)) (stands _ b) variables-met (λ h. grown .walks h ∙ on-kind (k .ground) text (r .progress .next) t refl 6 y (λ a. omega arith) (wants (term-read (argument-in (h .context) (h .negative) (h .name) (g .terms)) (grown .one))) v′ v′ _ refl (fault-none _ _ _ _ refl refl refl refl) (meets-none text (token-by 6 (part text (t .place))) (t .place) v′ refl refl)))
+            go (last x y q) = let b = behind 6 y (λ a. omega arith) in rw q (read refl (let a = grown .onward in let c = g .onward in omega arith) (within (k .ground) text (r .progress .next) t refl) refl (grown .fits) (arguments (g .terms) (grown .one)) (stands _ b) variables-met (λ h. grown .walks h ∙ on-kind (k .ground) text (r .progress .next) t refl 6 y (λ a. omega arith) (wants (term-read (argument-in (h .context) (h .negative) (h .name) (g .terms)) (grown .one))) v′ v′ _ refl (fault-none _ _ _ _ refl refl refl refl) (meets-none text (token-by 6 (part text (t .place))) (t .place) v′ refl refl)))
 
         -- a comma: one more is wanted
         pub going-on : length names′ ≡ length names₀ → length variables′ ≡ length variables₀ → s .progress .code ≡ 0 → s .last ≡ false → Going program output text names₀ variables₀ k names′ variables′ (s .progress .next) (r .met) (set codes n (r .number)) (n + 1)
@@ -199,7 +199,7 @@ module _ (program output text : Bytes) (names₀ variables₀ : List ℕ) (k : C
         going-on names-long long z l = go gs
           where
             go : Separates (k .ground) text (r .progress .next) 6 s → Going program output text names₀ variables₀ k names′ variables′ (s .progress .next) (r .met) (set codes n (r .number)) (n + 1)
-            go (last y q) = absurd (true≢false (rw q at l))
+            go (last x y q) = absurd (true≢false (rw q at l))
             go (neither y y′ q) = let a : _≡_ {A = ℕ} 2 0 = rw q at z in absurd (omega arith)
             go (comma y q) =
                 let b = behind 7 y (λ a. omega arith) in

@@ -1,6 +1,6 @@
 -- What the functions that read a classical atom return, by the tests that led there.
-use mathlib.Core.Path.{_≡_, refl, sym as inv, _∙_}
-use mathlib.Core.Bool.{true, false}
+use mathlib.Core.Path.{_≡_, refl, sym as inv, ap, _∙_}
+use mathlib.Core.Bool.{Bool, true, false}
 use mathlib.Core.List.{List, []}
 use Prim.Native.Nat.{ℕ, _-_, _≤_, _<_}
 use native.Mathlib.Omega.{arith}
@@ -28,10 +28,17 @@ use Rattle.atoms.specs.declared.cursor.Cursor.{Cursor}
 use Rattle.atoms.specs.declared.arguments.ArgumentsRead.{ArgumentsRead}
 use Rattle.atoms.specs.declared.atom.AtomRead.{AtomRead}
 use Rattle.atoms.specs.declared.atom.SignedName.{SignedName}
-use Rattle.atoms.specs.Cursors.{Ready, met-before}
+use Rattle.atoms.specs.Cursors.{Ready, ReadyAtom, met-before}
 use Rattle.atoms.specs.Arguments.{ReadsArguments}
 use Rattle.atoms.specs.Atoms.{NameStands, ReadsNamed, ReadsMinus, ReadsAtom, stoppedAtom, goneAtom}
 use Rattle.atoms.proofs.Readiness.{met-fits, ready-on, codes-wider}
+
+-- the caller has looked at the token: a head begins there
+pub ready-head : (program output text : Bytes) (names variables : List ℕ) (k : Cursor) → Ready program output text names variables k → (ground : Bool) → k .ground ≡ ground → (t : TokenRead) → t ≡ tokenRead ground text (k .at) → (t .kind ≡ 9 → ⊥) → (t .kind ≡ 20 → ⊥) → ReadyAtom program output text names variables k
+ready-head program output text names variables k ready ground eg t et n e = record { ready = ready; begun = λ h. ((λ q. n (same ∙ q)), (λ q. e (same ∙ q))) }
+  where
+    same : t .kind ≡ tokenRead (k .ground) text (k .at) .kind
+    same = ap (λ (u : TokenRead). u .kind) et ∙ ap (λ (g : Bool). tokenRead g text (k .at) .kind) (inv eg)
 
 -- the cursor behind a token
 abbrev pub behind-token : Cursor → TokenRead → Cursor

@@ -1,20 +1,20 @@
 -- Classical atoms as numbers: what the functions that read them promise.
 use mathlib.Core.Bool.{false}
 use mathlib.Core.List.{List, [], _∷_}
-use Prim.Native.Nat.{ℕ, _-_}
+use Prim.Native.Nat.{ℕ, _-_, _<_}
 use Rattle.lexis.specs.declared.Place.{Place}
 use Rattle.lexis.specs.Places.{places-in}
 use Rattle.meaning.specs.Rules.{Bytes, Term, Atom}
 use Rattle.meaning.specs.Values.{Value}
 use Rattle.codes.specs.Predicates.{CodedName}
-use Rattle.names.specs.Table.{names-of}
+use Rattle.names.specs.Table.{most-names, names-of}
 use Rattle.syntax.specs.Fills.{going, halted, Fills}
 use Rattle.syntax.specs.Atoms.{named-in, minus-in, atom-in}
 use Rattle.rows.specs.Coding.{CodedAtom, Codes}
 use Rattle.atoms.specs.declared.cursor.Cursor.{Cursor}
 use Rattle.atoms.specs.declared.atom.AtomRead.{AtomRead}
 use Rattle.atoms.specs.declared.atom.SignedName.{SignedName}
-use Rattle.atoms.specs.Cursors.{met-before}
+use Rattle.atoms.specs.Cursors.{Ready, met-before}
 use Rattle.atoms.specs.Arguments.{no-codes}
 
 -- the numbers stand for the atom, beside the table of names afterwards; what has been read began at a place
@@ -24,6 +24,13 @@ AtomStands program output names at r names′ a = Codes program output names (r 
 -- the number stands for a name that was read before
 abbrev pub NameStands : Bytes → Bytes → List ℕ → ℕ → Bytes → Type 0
 NameStands program output names number b = CodedName (names-of program output names) (number ∷ []) b
+
+-- what is asked behind a name: its number stands for one
+pub record ReadyNamed (program output text : Bytes) (names variables : List ℕ) (k : Cursor) (name : SignedName) : Type 0 where
+  pub ready : Ready program output text names variables k
+  pub small : name .number < most-names
+  pub bytes : Bytes
+  pub stands : NameStands program output names (name .number) bytes
 
 -- behind a name, whatever name the number stands for
 abbrev pub ReadsNamed : Bytes → Bytes → Bytes → List ℕ → List ℕ → Cursor → SignedName → AtomRead → List ℕ → List ℕ → Type 0

@@ -1,5 +1,7 @@
 -- What is asked where reading stands at a cursor.
 use Prim.Native.Nat.{ℕ, _-_, _≤_}
+use mathlib.Core.Path.{_≡_}
+use mathlib.Core.Bool.{true, _||_}
 use mathlib.Core.List.{List}
 use lib.ListN.{length}
 use Rattle.lexis.specs.declared.Place.{Place}
@@ -7,6 +9,7 @@ use Rattle.lexis.specs.Places.{places-in}
 use Rattle.lexis.specs.Sizes.{most-text}
 use Rattle.meaning.specs.Rules.{Bytes}
 use Rattle.grammar.specs.Sizes.{most-variables}
+use Rattle.syntax.specs.Text.{tokenRead}
 use Rattle.rows.specs.Growth.{Room, Source}
 use Rattle.atoms.specs.declared.cursor.Cursor.{Cursor}
 
@@ -19,6 +22,12 @@ pub record Ready (program output text : Bytes) (names variables : List ℕ) (k :
   pub room : Room program output names (length text - k .at)
   pub few : k .met ≤ most-variables
   pub long : 32 ≤ length variables
+
+-- the same where an atom is wanted; and a head, of a fact or of a rule that is one too many, begins neither with `:-` nor at the end: there the
+-- grammar wants none. Only behind `not` anything may stand
+pub record ReadyAtom (program output text : Bytes) (names variables : List ℕ) (k : Cursor) : Type 0 where
+  pub ready : Ready program output text names variables k
+  pub begun : (k .ground || k .over) ≡ true → (tokenRead (k .ground) text (k .at) .kind ≡ 9 → ⊥) × (tokenRead (k .ground) text (k .at) .kind ≡ 20 → ⊥)
 
 -- the variables met before
 abbrev pub met-before : List ℕ → Cursor → List Place

@@ -1,9 +1,7 @@
 // A classical atom, read as its predicate's number and its terms': perhaps a minus, a name, perhaps arguments.
 ghost use mathlib.Core.Path.{_≡_};
-ghost use Prim.Native.Nat.{_<_};
-ghost use Rattle.names.specs.Table.{most-names};
-ghost use Rattle.atoms.specs.Cursors.{Ready};
-ghost use Rattle.atoms.specs.Atoms.{stoppedAtom, goneAtom, ReadsNamed, ReadsMinus, ReadsAtom};
+ghost use Rattle.atoms.specs.Cursors.{Ready, ReadyAtom};
+ghost use Rattle.atoms.specs.Atoms.{stoppedAtom, goneAtom, ReadyNamed, ReadsNamed, ReadsMinus, ReadsAtom};
 use crate::arguments::arguments_at;
 use crate::cursor::Cursor;
 use codes::predicate;
@@ -75,7 +73,7 @@ pub fn named_atom<'a>(
     cursor: Cursor,
     name: SignedName,
 ) -> AtomRead
-    requires { ⌜ Ready (now program) (now output) (now text) (now names) (now variables) cursor × (name .number < most-names) ⌝ }
+    requires { ⌜ ReadyNamed (now program) (now output) (now text) (now names) (now variables) cursor name ⌝ }
     ensures { λ r. ⌜ ReadsNamed (now (program .entry)) (now (output .entry)) (now (text .entry)) (now (names .entry)) (now (variables .entry)) cursor name r (now (names .exit)) (now (variables .exit)) ⌝ }
 {
     let token = token_at(text, cursor.at, cursor.ground);
@@ -147,7 +145,7 @@ pub fn atom_at<'a>(
     variables: &mut [u32],
     cursor: Cursor,
 ) -> AtomRead
-    requires { ⌜ Ready (now program) (now output) (now text) (now names) (now variables) cursor ⌝ }
+    requires { ⌜ ReadyAtom (now program) (now output) (now text) (now names) (now variables) cursor ⌝ }
     ensures { λ r. ⌜ ReadsAtom (now (program .entry)) (now (output .entry)) (now (text .entry)) (now (names .entry)) (now (variables .entry)) cursor r (now (names .exit)) (now (variables .exit)) ⌝ }
 {
     let token = token_at(text, cursor.at, cursor.ground);

@@ -200,7 +200,7 @@ module _ (program output : Bytes) (names₀ variables₀ literals₀ : List ℕ)
             where
               go : Separates false program (r .progress .next) 8 d → FillsBody program output names₀ variables₀ literals₀ k first (stoppedBody (d .progress .code) (d .progress .place) (r .met)) names″ variables″ literals″
               go (comma y q) = absurd (ne (rw q))
-              go (last y q) = absurd (ne (rw q))
+              go (last x y q) = absurd (ne (rw q))
               go (neither y l q) = rw q (FillsBody.stopped (omega arith) (λ p h. ap (λ a. a .answer) (grown .walks p h) ∙ wrong-token false program (r .progress .next) t refl (behind-literal (body-with p h (g .before)) (grown .one)) v′ (rw (ne-eqb (t .kind) 7 y, ne-eqb (t .kind) 8 l)) (λ z. refl)))
 
           behind : (j : ℕ) → t .kind ≡ j → (j ≡ 20 → ⊥) → r .progress .next ≤ t .next
@@ -225,7 +225,7 @@ module _ (program output : Bytes) (names₀ variables₀ literals₀ : List ℕ)
               go : Separates false program (r .progress .next) 8 d → FillsBody program output names₀ variables₀ literals₀ k first (goneBody (n + 1) (d .progress .next) (r .met)) names′ variables′ literals′
               go (comma y q) = absurd (false≢true (rw q at l))
               go (neither y y′ q) = absurd (false≢true (rw q at l))
-              go (last y q) =
+              go (last x y q) =
                   let b = behind 8 y (λ a. omega arith) in
                   rw q
                   (FillsBody.read refl
@@ -251,7 +251,7 @@ module _ (program output : Bytes) (names₀ variables₀ literals₀ : List ℕ)
           going-on names-long variables-long z l = go gd
             where
               go : Separates false program (r .progress .next) 8 d → Going program output names₀ variables₀ literals₀ k first names′ variables′ literals′ (d .progress .next) (r .met) (n + 1)
-              go (last y q) = absurd (true≢false (rw q at l))
+              go (last x y q) = absurd (true≢false (rw q at l))
               go (neither y y′ q) = let a : _≡_ {A = ℕ} 2 0 = rw q at z in absurd (omega arith)
               go (comma y q) =
                   let b = behind 7 y (λ a. omega arith) in

@@ -34,7 +34,7 @@ use Rattle.atoms.specs.Atoms.{ReadsNamed, ReadsMinus, ReadsAtom}
 use Rattle.atoms.proofs.Readiness.{met-fits, fits-met, ready-on, codes-wider}
 use Rattle.atoms.proofs.AtomLaws.{with-name, name-stands, ready-named}
 use Rattle.clauses.specs.declared.builtin.LiteralRead.{LiteralRead}
-use Rattle.clauses.specs.Builtins.{ReadyBehind, LiteralStands, ReadsSide, ReadsCompared, behind-left, stoppedLiteral}
+use Rattle.clauses.specs.Builtins.{ReadyBehind, ReadySide, LiteralStands, ReadsSide, ReadsCompared, behind-left, stoppedLiteral}
 use Rattle.clauses.specs.Literals.{ReadsLiteral, ReadsMinusLiteral, atomLiteral}
 use Rattle.clauses.proofs.BuiltinLaws.{in-program-behind, compared-refused, compared-side}
 
@@ -79,11 +79,11 @@ module _ (program output : Bytes) (names variables : List ℕ) (k : Cursor) (rea
 
   module _ (ek : t .kind ≡ 4) (w : TermRead) (g : ReadsNegative false program (k .at) (k .met) w) where
     -- there is room behind the number
-    pub ready-negative : w .progress .code ≡ 0 → ReadyBehind program output names variables (behind-left (k .base) w)
-    ready-negative e = record { ready = go (g .reads v (met-fits (ready .ready))); in-program = refl }
+    pub ready-negative : w .progress .code ≡ 0 → ReadySide program output names variables (behind-left (k .base) w) (w .number)
+    ready-negative e = go (g .reads v (met-fits (ready .ready)))
       where
-        go : Fills (negative-in false) false program (k .at) v (w .progress) v (Nameless (w .number)) → Ready program output program names variables (behind-left (k .base) w)
-        go (read c b m o f x s y q) = ready-on (ready .ready) (behind-left (k .base) w) refl (grows-none program output names _ (ready .ready .room .in-order)) b m (rw (g .same-met) (ready .ready .few)) refl
+        go : Fills (negative-in false) false program (k .at) v (w .progress) v (Nameless (w .number)) → ReadySide program output names variables (behind-left (k .base) w) (w .number)
+        go (read c b m o f x s y q) = record { behind = record { ready = ready-on (ready .ready) (behind-left (k .base) w) refl (grows-none program output names _ (ready .ready .room .in-order)) b m (rw (g .same-met) (ready .ready .few)) refl; in-program = refl }; term = _; stands = s _ }
         go (stopped c q) = absurd (omega arith)
 
     pub minus-compared : (r : LiteralRead) (names′ variables′ : List ℕ) → ReadsCompared program output names variables (k .base) w r names′ variables′ → ReadsMinusLiteral program output names variables k r names′ variables′
@@ -115,11 +115,11 @@ module _ (program output : Bytes) (names variables : List ℕ) (k : Cursor) (rea
     in-program-term : ReadsTerm program output program names variables (record { base = k .base; at = k .at; ground = false; over = k .over; met = k .met }) w names₁ variables₁
     in-program-term = rw (ready .in-program) at g
 
-    pub ready-left : length variables₁ ≡ length variables → w .progress .code ≡ 0 → ReadyBehind program output names₁ variables₁ (behind-left (k .base) w)
-    ready-left long e = record { ready = go in-program-term; in-program = refl }
+    pub ready-left : length variables₁ ≡ length variables → w .progress .code ≡ 0 → ReadySide program output names₁ variables₁ (behind-left (k .base) w) (w .number)
+    ready-left long e = go in-program-term
       where
-        go : ReadsTerm program output program names variables (record { base = k .base; at = k .at; ground = false; over = k .over; met = k .met }) w names₁ variables₁ → Ready program output program names₁ variables₁ (behind-left (k .base) w)
-        go (read c b m o f x s y q) = ready-on (ready .ready) (behind-left (k .base) w) refl (s .grows) b m (fits-met variables₁ (w .met) f) long
+        go : ReadsTerm program output program names variables (record { base = k .base; at = k .at; ground = false; over = k .over; met = k .met }) w names₁ variables₁ → ReadySide program output names₁ variables₁ (behind-left (k .base) w) (w .number)
+        go (read c b m o f x s y q) = record { behind = record { ready = ready-on (ready .ready) (behind-left (k .base) w) refl (s .grows) b m (fits-met variables₁ (w .met) f) long; in-program = refl }; term = _; stands = s .coded }
         go (stopped c q) = absurd (omega arith)
 
     pub literal-compared : (t .kind ≡ 0 → ⊥) → (t .kind ≡ 1 → ⊥) → t .kind ≤ 4 → (r : LiteralRead) (names′ variables′ : List ℕ) → ReadsCompared program output names₁ variables₁ (k .base) w r names′ variables′ → ReadsLiteral program output names variables k r names′ variables′

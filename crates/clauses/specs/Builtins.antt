@@ -32,6 +32,12 @@ LiteralStands program output names at r names′ l = Codes program output names 
 abbrev pub TermStands : Bytes → Bytes → List ℕ → ℕ → Term Value → Type 0
 TermStands program output names c t = CodedTerm (names-of program output names) c t
 
+-- a cursor behind a left term, whose number stands for one
+pub record ReadySide (program output : Bytes) (names variables : List ℕ) (k : Cursor) (left : ℕ) : Type 0 where
+  pub behind : ReadyBehind program output names variables k
+  pub term : Term Value
+  pub stands : TermStands program output names left term
+
 -- behind the right term, whatever terms the numbers stand for
 abbrev pub ReadsTail : Bytes → Bytes → List ℕ → List ℕ → Cursor → Sides → LiteralRead → List ℕ → List ℕ → Type 0
 ReadsTail program output names variables k c r names′ variables′ = (t u : Term Value) → TermStands program output names (c .left) t → TermStands program output names (c .right) u → Fills (tail-in t (comparison-at (c .comparison)) u) false program (k .at) (met-before variables k) (r .progress) (places-in variables′ (r .met)) (LiteralStands program output names (k .at) r names′)

@@ -1,6 +1,6 @@
 // A built-in atom from its left term's number on: a comparison, a term, and perhaps an operation and a term, read as a row.
 ghost use mathlib.Core.Path.{_≡_};
-ghost use Rattle.clauses.specs.Builtins.{stoppedLiteral, goneLiteral, ReadyBehind, behind-left, ReadsTail, ReadsSide, ReadsCompared};
+ghost use Rattle.clauses.specs.Builtins.{stoppedLiteral, goneLiteral, ReadyBehind, ReadySide, behind-left, ReadsTail, ReadsSide, ReadsCompared};
 use atoms::cursor::Cursor;
 use atoms::term::TermRead;
 use atoms::term::term_at;
@@ -111,7 +111,7 @@ pub fn side_at<'a>(
     cursor: Cursor,
     left: u64,
 ) -> LiteralRead
-    requires { ⌜ ReadyBehind (now program) (now output) (now names) (now variables) cursor ⌝ }
+    requires { ⌜ ReadySide (now program) (now output) (now names) (now variables) cursor left ⌝ }
     ensures { λ r. ⌜ ReadsSide (now (program .entry)) (now (output .entry)) (now (names .entry)) (now (variables .entry)) cursor left r (now (names .exit)) (now (variables .exit)) ⌝ }
 {
     let token = token_at(program, cursor.at, false);
@@ -156,7 +156,7 @@ pub fn compared<'a>(
     base: usize,
     left: TermRead,
 ) -> LiteralRead
-    requires { ⌜ (left .progress .code ≡ 0 → ReadyBehind (now program) (now output) (now names) (now variables) (behind-left base left)) ⌝ }
+    requires { ⌜ (left .progress .code ≡ 0 → ReadySide (now program) (now output) (now names) (now variables) (behind-left base left) (left .number)) ⌝ }
     ensures { λ r. ⌜ ReadsCompared (now (program .entry)) (now (output .entry)) (now (names .entry)) (now (variables .entry)) base left r (now (names .exit)) (now (variables .exit)) ⌝ }
 {
     let progress = left.progress;

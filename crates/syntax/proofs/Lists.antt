@@ -36,8 +36,8 @@ module _ (ground : Bool) (text : Bytes) (at mark : ℕ) (t : TokenRead) (et : t 
   pub is-comma : t .kind ≡ 7 → r ≡ goneSeparator (t .next) false → Separates ground text at mark r
   is-comma k e = Separates.comma (rw et at k) (rw et at e)
 
-  pub is-last : t .kind ≡ mark → r ≡ goneSeparator (t .next) true → Separates ground text at mark r
-  is-last k e = last (rw et at k) (rw et at e)
+  pub is-last : (t .kind ≡ 7 → ⊥) → t .kind ≡ mark → r ≡ goneSeparator (t .next) true → Separates ground text at mark r
+  is-last n k e = last (rw et at n) (rw et at k) (rw et at e)
 
   pub is-neither : (t .kind ≡ 7 → ⊥) → (t .kind ≡ mark → ⊥) → r ≡ stoppedSeparator (t .place) → Separates ground text at mark r
   is-neither k l e = neither (rw et at k) (rw et at l) (rw et at e)

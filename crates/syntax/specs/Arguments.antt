@@ -33,8 +33,8 @@ goneSeparator next last = record { progress = going next; last = last }
 abbrev pub stoppedSeparator : Place → SeparatorRead
 stoppedSeparator place = record { progress = halted 2 place; last = false }
 
--- the next token is a comma, the mark of a list's end, or neither
+-- the next token is a comma, else the mark of a list's end, or neither
 pub data Separates (ground : Bool) (text : Bytes) (at mark : ℕ) (r : SeparatorRead) : Type 0 where
   comma : tokenRead ground text at .kind ≡ 7 → r ≡ goneSeparator (tokenRead ground text at .next) false → Separates ground text at mark r
-  last : tokenRead ground text at .kind ≡ mark → r ≡ goneSeparator (tokenRead ground text at .next) true → Separates ground text at mark r
+  last : (tokenRead ground text at .kind ≡ 7 → ⊥) → tokenRead ground text at .kind ≡ mark → r ≡ goneSeparator (tokenRead ground text at .next) true → Separates ground text at mark r
   neither : (tokenRead ground text at .kind ≡ 7 → ⊥) → (tokenRead ground text at .kind ≡ mark → ⊥) → r ≡ stoppedSeparator (tokenRead ground text at .place) → Separates ground text at mark r

@@ -1,6 +1,7 @@
 -- `atom::atom_at` meets its contract. Assumes nothing.
 use native.Mathlib.Omega.{arith}
 use Rattle.rows.proofs.Growth.{room-less}
+use Rattle.names.proofs.Numbered.{grown-coded-name}
 use Rattle.rows.proofs.Terms.{name-below}
 use Rattle.syntax.proofs.Tokens.{within, forward}
 use Rattle.atoms.proofs.TermLaws.{name-filled}
@@ -16,14 +17,14 @@ returns c =
     let if1 = word-code .before in
     let token-at = if1 .before .before .before in
     let start = token-at .before .before .before .before .before .before in
-    atom-stops (start .args .program .now) (start .args .output .now) (start .args .text .now) (start .args .names .now) (start .args .variables .now) (start .args .cursor) (start .pre) _ (token-at .token-at .ensures) _ (if1 .if1 .taken) _ (word-code .word-code .ensures) _ _ (if2 .if2 .taken) (c .stopped .ensures)
+    atom-stops (start .args .program .now) (start .args .output .now) (start .args .text .now) (start .args .names .now) (start .args .variables .now) (start .args .cursor) (start .pre .ready) _ (token-at .token-at .ensures) _ (if1 .if1 .taken) _ (word-code .word-code .ensures) _ _ (if2 .if2 .taken) (c .stopped .ensures)
 
 name-number-requires : tie.Need-name-number-requires
 name-number-requires c κs =
     let if1 = c .before .before .before in
     let token-at = if1 .before .before .before in
     let start = token-at .before .before .before .before .before .before in
-    ((room-less _ _ 1 (start .pre .room) (omega (arith, within (start .args .cursor .ground) (start .args .text .now) (start .args .cursor .at) _ (token-at .token-at .ensures), forward (start .args .cursor .ground) (start .args .text .now) (start .args .cursor .at) _ (token-at .token-at .ensures) (λ q. omega (arith, if1 .if1 .taken)))), start .pre .source), name-filled (start .args .cursor .ground) (start .args .text .now) (start .args .cursor .at) _ (token-at .token-at .ensures) (if1 .if1 .taken))
+    ((room-less _ _ 1 (start .pre .ready .room) (omega (arith, within (start .args .cursor .ground) (start .args .text .now) (start .args .cursor .at) _ (token-at .token-at .ensures), forward (start .args .cursor .ground) (start .args .text .now) (start .args .cursor .at) _ (token-at .token-at .ensures) (λ q. omega (arith, if1 .if1 .taken)))), start .pre .ready .source), name-filled (start .args .cursor .ground) (start .args .text .now) (start .args .cursor .at) _ (token-at .token-at .ensures) (if1 .if1 .taken))
 
 named-atom-requires : tie.Need-named-atom-requires
 named-atom-requires c κs =
@@ -31,7 +32,7 @@ named-atom-requires c κs =
     let if1 = name-number .before .before .before .before in
     let token-at = if1 .before .before .before in
     let start = token-at .before .before .before .before .before .before in
-    (ready-named (start .args .program .now) (start .args .output .now) (start .args .text .now) (start .args .names .now) (start .args .variables .now) (start .args .cursor) (start .pre) _ (token-at .token-at .ensures) (if1 .if1 .taken) _ _ (name-number .name-number .ensures), name-below _ _ _ _ _ _ (name-number .name-number .ensures))
+    record { ready = ready-named (start .args .program .now) (start .args .output .now) (start .args .text .now) (start .args .names .now) (start .args .variables .now) (start .args .cursor) (start .pre .ready) _ (token-at .token-at .ensures) (if1 .if1 .taken) _ _ (name-number .name-number .ensures); small = name-below _ _ _ _ _ _ (name-number .name-number .ensures); bytes = _; stands = grown-coded-name _ _ _ _ (name-number .name-number .ensures .1) }
 
 returns-2 : tie.Need-returns-2
 returns-2 c =
@@ -42,7 +43,7 @@ returns-2 c =
     let if1 = word-code .before in
     let token-at = if1 .before .before .before in
     let start = token-at .before .before .before .before .before .before in
-    atom-goes (start .args .program .now) (start .args .output .now) (start .args .text .now) (start .args .names .now) (start .args .variables .now) (start .args .cursor) (start .pre) _ (token-at .token-at .ensures) _ (if1 .if1 .taken) _ (word-code .word-code .ensures) (if2 .if2 .left) _ _ (name-number .name-number .ensures) _ _ (named-atom .named-atom .ensures)
+    atom-goes (start .args .program .now) (start .args .output .now) (start .args .text .now) (start .args .names .now) (start .args .variables .now) (start .args .cursor) (start .pre .ready) _ (token-at .token-at .ensures) _ (if1 .if1 .taken) _ (word-code .word-code .ensures) (if2 .if2 .left) _ _ (name-number .name-number .ensures) _ _ (named-atom .named-atom .ensures)
 
 returns-3 : tie.Need-returns-3
 returns-3 c =
@@ -50,7 +51,7 @@ returns-3 c =
     let if1 = if3 .before .before in
     let token-at = if1 .before .before .before in
     let start = token-at .before .before .before .before .before .before in
-    atom-wrong (start .args .program .now) (start .args .output .now) (start .args .text .now) (start .args .names .now) (start .args .variables .now) (start .args .cursor) (start .pre) _ (token-at .token-at .ensures) _ _ _ (if1 .if1 .left) (if3 .if3 .taken) (c .stopped2 .ensures)
+    atom-wrong (start .args .program .now) (start .args .output .now) (start .args .text .now) (start .args .names .now) (start .args .variables .now) (start .args .cursor) (start .pre .ready) _ (token-at .token-at .ensures) _ _ _ (if1 .if1 .left) (if3 .if3 .taken) (c .stopped2 .ensures)
 
 returns-4 : tie.Need-returns-4
 returns-4 c =
@@ -58,14 +59,14 @@ returns-4 c =
     let if3 = if4 .before in
     let token-at = if3 .before .before .before .before .before in
     let start = token-at .before .before .before .before .before .before in
-    signed-over (start .args .program .now) (start .args .output .now) (start .args .text .now) (start .args .names .now) (start .args .variables .now) (start .args .cursor) (start .pre) _ (token-at .token-at .ensures) _ _ _ (if3 .if3 .left) (if4 .if4 .taken) (c .stopped3 .ensures)
+    signed-over (start .args .program .now) (start .args .output .now) (start .args .text .now) (start .args .names .now) (start .args .variables .now) (start .args .cursor) (start .pre .ready) _ (token-at .token-at .ensures) _ _ _ (if3 .if3 .left) (if4 .if4 .taken) (c .stopped3 .ensures)
 
 minus-atom-requires : tie.Need-minus-atom-requires
 minus-atom-requires c κs =
     let if3 = c .before .before .before in
     let token-at = if3 .before .before .before .before .before in
     let start = token-at .before .before .before .before .before .before in
-    ready-behind (start .args .program .now) (start .args .output .now) (start .args .text .now) (start .args .names .now) (start .args .variables .now) (start .args .cursor) (start .pre) _ (token-at .token-at .ensures) 10 (if3 .if3 .left) (λ z. omega arith)
+    ready-behind (start .args .program .now) (start .args .output .now) (start .args .text .now) (start .args .names .now) (start .args .variables .now) (start .args .cursor) (start .pre .ready) _ (token-at .token-at .ensures) 10 (if3 .if3 .left) (λ z. omega arith)
 
 returns-5 : tie.Need-returns-5
 returns-5 c =
@@ -74,7 +75,7 @@ returns-5 c =
     let if3 = if4 .before in
     let token-at = if3 .before .before .before .before .before in
     let start = token-at .before .before .before .before .before .before in
-    signed-goes (start .args .program .now) (start .args .output .now) (start .args .text .now) (start .args .names .now) (start .args .variables .now) (start .args .cursor) (start .pre) _ (token-at .token-at .ensures) _ (if3 .if3 .left) (if4 .if4 .left) _ _ (minus-atom .minus-atom .ensures)
+    signed-goes (start .args .program .now) (start .args .output .now) (start .args .text .now) (start .args .names .now) (start .args .variables .now) (start .args .cursor) (start .pre .ready) _ (token-at .token-at .ensures) _ (if3 .if3 .left) (if4 .if4 .left) _ _ (minus-atom .minus-atom .ensures)
 
 pub atom-at-spec : {M : Type 1} → statement M
 atom-at-spec =

@@ -1,6 +1,7 @@
 -- `atom::minus_atom` meets its contract. Assumes nothing.
 use native.Mathlib.Omega.{arith}
 use Rattle.rows.proofs.Growth.{room-less}
+use Rattle.names.proofs.Numbered.{grown-coded-name}
 use Rattle.rows.proofs.Terms.{name-below}
 use Rattle.syntax.proofs.Tokens.{within, forward}
 use Rattle.atoms.proofs.TermLaws.{name-filled}
@@ -38,7 +39,7 @@ named-atom-requires c κs =
     let if1 = name-number .before .before .before .before in
     let token-at = if1 .before .before .before in
     let start = token-at .before .before .before .before .before .before in
-    (ready-named (start .args .program .now) (start .args .output .now) (start .args .text .now) (start .args .names .now) (start .args .variables .now) (start .args .cursor) (start .pre) _ (token-at .token-at .ensures) (if1 .if1 .left) _ _ (name-number .name-number .ensures), name-below _ _ _ _ _ _ (name-number .name-number .ensures))
+    record { ready = ready-named (start .args .program .now) (start .args .output .now) (start .args .text .now) (start .args .names .now) (start .args .variables .now) (start .args .cursor) (start .pre) _ (token-at .token-at .ensures) (if1 .if1 .left) _ _ (name-number .name-number .ensures); small = name-below _ _ _ _ _ _ (name-number .name-number .ensures); bytes = _; stands = grown-coded-name _ _ _ _ (name-number .name-number .ensures .1) }
 
 returns-3 : tie.Need-returns-3
 returns-3 c =

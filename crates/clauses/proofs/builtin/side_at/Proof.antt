@@ -12,7 +12,7 @@ returns c =
     let is-comparison = if1 .before in
     let token-at = is-comparison .before in
     let start = token-at .before .before .before .before .before in
-    side-wrong (start .args .program .now) (start .args .output .now) (start .args .names .now) (start .args .variables .now) (start .args .cursor) (start .pre) _ (token-at .token-at .ensures) _ _ _ _ (inv (is-comparison .is-comparison .ensures) ∙ not-true _ (if1 .if1 .taken)) (c .stopped .ensures)
+    side-wrong (start .args .program .now) (start .args .output .now) (start .args .names .now) (start .args .variables .now) (start .args .cursor) (start .pre .behind) _ (token-at .token-at .ensures) _ _ _ _ (inv (is-comparison .is-comparison .ensures) ∙ not-true _ (if1 .if1 .taken)) (c .stopped .ensures)
 
 term-at-requires : tie.Need-term-at-requires
 term-at-requires c κs =
@@ -20,7 +20,7 @@ term-at-requires c κs =
     let is-comparison = if1 .before in
     let token-at = is-comparison .before in
     let start = token-at .before .before .before .before .before in
-    ready-token (start .args .program .now) (start .args .output .now) (start .args .names .now) (start .args .variables .now) (start .args .cursor) (start .pre) _ (token-at .token-at .ensures) (sign-no-end _ (inv (is-comparison .is-comparison .ensures) ∙ not-false _ (if1 .if1 .left))) .ready
+    ready-token (start .args .program .now) (start .args .output .now) (start .args .names .now) (start .args .variables .now) (start .args .cursor) (start .pre .behind) _ (token-at .token-at .ensures) (sign-no-end _ (inv (is-comparison .is-comparison .ensures) ∙ not-false _ (if1 .if1 .left))) .ready
 
 returns-2 : tie.Need-returns-2
 returns-2 c =
@@ -30,10 +30,10 @@ returns-2 c =
     let is-comparison = if1 .before in
     let token-at = is-comparison .before in
     let start = token-at .before .before .before .before .before in
-    side-stops (start .args .program .now) (start .args .output .now) (start .args .names .now) (start .args .variables .now) (start .args .cursor) (start .pre) _ (token-at .token-at .ensures) _ _ (inv (is-comparison .is-comparison .ensures) ∙ not-false _ (if1 .if1 .left)) _ _ _ (term-at .term-at .ensures) _ _ (if2 .if2 .taken) (c .stopped2 .ensures)
+    side-stops (start .args .program .now) (start .args .output .now) (start .args .names .now) (start .args .variables .now) (start .args .cursor) (start .pre .behind) _ (token-at .token-at .ensures) _ _ (inv (is-comparison .is-comparison .ensures) ∙ not-false _ (if1 .if1 .left)) _ _ _ (term-at .term-at .ensures) _ _ (if2 .if2 .taken) (c .stopped2 .ensures)
 
 operation-at-requires : tie.Need-operation-at-requires
-operation-at-requires c κs = ready-term (c .before .before .before .before .before .before .before .before .before .before .before .before .before .before .before .before .before .before .before .before .args .program .now) (c .before .before .before .before .before .before .before .before .before .before .before .before .before .before .before .before .before .before .before .before .args .output .now) (c .before .before .before .before .before .before .before .before .before .before .before .before .before .before .before .before .before .before .before .before .args .names .now) (c .before .before .before .before .before .before .before .before .before .before .before .before .before .before .before .before .before .before .before .before .args .variables .now) (c .before .before .before .before .before .before .before .before .before .before .before .before .before .before .before .before .before .before .before .before .args .cursor) (c .before .before .before .before .before .before .before .before .before .before .before .before .before .before .before .before .before .before .before .before .pre) _ (c .before .before .before .before .before .before .before .before .before .before .before .before .before .before .before .token-at .ensures) (sign-no-end _ (inv (c .before .before .before .before .before .before .before .before .before .before .before .before .before .before .is-comparison .ensures) ∙ not-false _ (c .before .before .before .before .before .before .before .before .before .before .before .before .before .if1 .left))) _ _ _ (c .before .before .before .before .before .before .before .before .before .before .term-at .ensures) (c .before .before .before .if2 .left) (search needs)
+operation-at-requires c κs = ready-term (c .before .before .before .before .before .before .before .before .before .before .before .before .before .before .before .before .before .before .before .before .args .program .now) (c .before .before .before .before .before .before .before .before .before .before .before .before .before .before .before .before .before .before .before .before .args .output .now) (c .before .before .before .before .before .before .before .before .before .before .before .before .before .before .before .before .before .before .before .before .args .names .now) (c .before .before .before .before .before .before .before .before .before .before .before .before .before .before .before .before .before .before .before .before .args .variables .now) (c .before .before .before .before .before .before .before .before .before .before .before .before .before .before .before .before .before .before .before .before .args .cursor) (c .before .before .before .before .before .before .before .before .before .before .before .before .before .before .before .before .before .before .before .before .pre .behind) _ (c .before .before .before .before .before .before .before .before .before .before .before .before .before .before .before .token-at .ensures) (sign-no-end _ (inv (c .before .before .before .before .before .before .before .before .before .before .before .before .before .before .is-comparison .ensures) ∙ not-false _ (c .before .before .before .before .before .before .before .before .before .before .before .before .before .if1 .left))) _ _ _ (c .before .before .before .before .before .before .before .before .before .before .term-at .ensures) (c .before .before .before .if2 .left) (search needs)
 
 returns-3 : tie.Need-returns-3
 returns-3 c =
@@ -45,7 +45,7 @@ returns-3 c =
     let is-comparison = if1 .before in
     let token-at = is-comparison .before in
     let start = token-at .before .before .before .before .before in
-    side-goes (start .args .program .now) (start .args .output .now) (start .args .names .now) (start .args .variables .now) (start .args .cursor) (start .pre) _ (token-at .token-at .ensures) _ _ (inv (is-comparison .is-comparison .ensures) ∙ not-false _ (if1 .if1 .left)) _ _ _ (term-at .term-at .ensures) (if2 .if2 .left) _ (comparison-code .comparison-code .ensures) _ _ (operation-at .operation-at .ensures)
+    side-goes (start .args .program .now) (start .args .output .now) (start .args .names .now) (start .args .variables .now) (start .args .cursor) (start .pre .behind) _ (token-at .token-at .ensures) _ _ (inv (is-comparison .is-comparison .ensures) ∙ not-false _ (if1 .if1 .left)) _ _ _ (term-at .term-at .ensures) (if2 .if2 .left) _ (comparison-code .comparison-code .ensures) _ _ (operation-at .operation-at .ensures)
 
 pub side-at-spec : {M : Type 1} → statement M
 side-at-spec =

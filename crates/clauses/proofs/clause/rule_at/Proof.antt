@@ -1,5 +1,7 @@
 -- `clause::rule_at` meets its contract. Assumes nothing.
 use native.Mathlib.Omega.{arith}
+use mathlib.Core.Bool.{false}
+use Rattle.atoms.proofs.AtomLaws.{ready-head}
 use Rattle.clauses.proofs.RuleLaws.{rule-ended, if-over, ready-if, if-goes, head-stops, head-room, ready-headed, head-goes}
 use borrow.Author.Needs.{needs}
 use Rattle.clauses.proofs.clause.rule_at.Statement.{statement}
@@ -47,8 +49,11 @@ returns-3 c =
 
 atom-at-requires : tie.Need-atom-at-requires
 atom-at-requires c κs =
-    let start = c .before .before .before .before .before .before .before .before .before .before .before .before .before in
-    start .pre .ready .ready
+    let if2 = c .before .before in
+    let if1 = if2 .before .before .before in
+    let token-at = if1 .before .before in
+    let start = token-at .before .before .before .before .before .before in
+    ready-head (start .args .program .now) (start .args .output .now) (start .args .program .now) (start .args .names .now) (start .args .variables .now) (start .args .cursor) (start .pre .ready .ready) false (start .pre .ready .in-program) _ (token-at .token-at .ensures) (if2 .if2 .left) (if1 .if1 .left)
 
 returns-4 : tie.Need-returns-4
 returns-4 c =

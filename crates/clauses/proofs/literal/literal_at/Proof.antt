@@ -1,5 +1,6 @@
 -- `literal::literal_at` meets its contract. Assumes nothing.
 use native.Mathlib.Omega.{arith}
+use mathlib.Core.Bool.{false≢true}
 use Rattle.clauses.proofs.BuiltinLaws.{ready-token}
 use Rattle.clauses.proofs.LiteralLaws.{not-over, minus-over, not-goes, minus-goes, literal-wrong, ready-left, literal-compared}
 use borrow.Author.Needs.{needs}
@@ -29,7 +30,8 @@ atom-at-requires c κs =
     let if2 = c .before .before .before in
     let token-at = if2 .before .before .before .before .before in
     let start = token-at .before .before .before .before .before in
-    ready-token (start .args .program .now) (start .args .output .now) (start .args .names .now) (start .args .variables .now) (start .args .cursor) (start .pre) _ (token-at .token-at .ensures) (λ z. omega (arith, if2 .if2 .taken)) .ready
+    let behind = ready-token (start .args .program .now) (start .args .output .now) (start .args .names .now) (start .args .variables .now) (start .args .cursor) (start .pre) _ (token-at .token-at .ensures) (λ z. omega (arith, if2 .if2 .taken)) in
+    record { ready = behind .ready; begun = λ h. absurd (false≢true h) }
 
 returns-3 : tie.Need-returns-3
 returns-3 c =

@@ -3,7 +3,8 @@ use native.Mathlib.Omega.{arith}
 use mathlib.Core.Bool.{false}
 use mathlib.Core.Path.{sym as inv, _∙_}
 use Rattle.rows.proofs.Growth.{room-less}
-use Rattle.rows.proofs.Terms.{name-below}
+use Rattle.names.proofs.Numbered.{grown-coded-name}
+use Rattle.rows.proofs.Terms.{name-below, name-coded}
 use Rattle.syntax.proofs.Tokens.{within, forward}
 use Rattle.atoms.proofs.TermLaws.{name-filled}
 use Rattle.clauses.proofs.LiteralLaws.{name-stops, ready-name, name-compared, name-atom}
@@ -30,7 +31,7 @@ side-at-requires : tie.Need-side-at-requires
 side-at-requires c κs =
     let name-number = c .before .before .before .before .before .before .before in
     let start = name-number .before .before .before .before .before .before .before .before .before in
-    ready-name (start .args .program .now) (start .args .output .now) (start .args .names .now) (start .args .variables .now) (start .args .cursor) (start .pre .ready) _ (start .pre .is-token) (start .pre .is-name) _ _ (name-number .name-number .ensures)
+    record { behind = ready-name (start .args .program .now) (start .args .output .now) (start .args .names .now) (start .args .variables .now) (start .args .cursor) (start .pre .ready) _ (start .pre .is-token) (start .pre .is-name) _ _ (name-number .name-number .ensures); term = _; stands = name-coded _ _ _ _ _ _ (name-number .name-number .ensures) .coded }
 
 returns-2 : tie.Need-returns-2
 returns-2 c =
@@ -48,7 +49,7 @@ named-atom-requires : tie.Need-named-atom-requires
 named-atom-requires c κs =
     let name-number = c .before .before .before .before .before .before .before in
     let start = name-number .before .before .before .before .before .before .before .before .before in
-    (ready-name (start .args .program .now) (start .args .output .now) (start .args .names .now) (start .args .variables .now) (start .args .cursor) (start .pre .ready) _ (start .pre .is-token) (start .pre .is-name) _ _ (name-number .name-number .ensures) .ready, name-below _ _ _ _ _ _ (name-number .name-number .ensures))
+    record { ready = ready-name (start .args .program .now) (start .args .output .now) (start .args .names .now) (start .args .variables .now) (start .args .cursor) (start .pre .ready) _ (start .pre .is-token) (start .pre .is-name) _ _ (name-number .name-number .ensures) .ready; small = name-below _ _ _ _ _ _ (name-number .name-number .ensures); bytes = _; stands = grown-coded-name _ _ _ _ (name-number .name-number .ensures .1) }
 
 returns-3 : tie.Need-returns-3
 returns-3 c =

@@ -1,4 +1,7 @@
 -- `fact::fact_at` meets its contract. Assumes nothing.
+use mathlib.Core.Path.{refl}
+use mathlib.Core.Bool.{true}
+use Rattle.atoms.proofs.AtomLaws.{ready-head}
 use Rattle.factline.proofs.FactLaws.{fact-ended, fact-if, fact-stops, fact-wrong, fact-goes}
 use borrow.Author.Needs.{needs}
 use Rattle.factline.proofs.fact.fact_at.Statement.{statement}
@@ -20,8 +23,12 @@ returns-2 c =
 
 atom-at-requires : tie.Need-atom-at-requires
 atom-at-requires c κs =
-    let start = c .before .before .before .before .before .before .before .before .before .before .before .before .before in
-    let p = start .pre in record { source = p .source; short = p .short; inside = p .inside; room = p .room; few = p .few; long = p .long }
+    let if2 = c .before .before in
+    let if1 = if2 .before .before in
+    let token-at = if1 .before .before .before in
+    let start = token-at .before .before .before .before .before .before in
+    let p = start .pre in
+    ready-head (start .args .program .now) (start .args .output .now) (start .args .text .now) (start .args .names .now) (start .args .variables .now) _ (record { source = p .source; short = p .short; inside = p .inside; room = p .room; few = p .few; long = p .long }) true refl _ (token-at .token-at .ensures) (if2 .if2 .left) (if1 .if1 .left)
 
 returns-3 : tie.Need-returns-3
 returns-3 c =

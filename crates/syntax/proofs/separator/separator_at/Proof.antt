@@ -24,9 +24,10 @@ gone-requires-2 c κs = search needs
 returns-2 : tie.Need-returns-2
 returns-2 c =
     let if2 = c .before in
-    let token-at = if2 .before .before .before .before in
+    let if1 = if2 .before .before in
+    let token-at = if1 .before .before in
     let start = token-at .before .before in
-    is-last (start .args .ground) (start .args .text .now) (start .args .at) (start .args .mark) _ (token-at .token-at .ensures) _ (if2 .if2 .taken) (c .gone2 .ensures)
+    is-last (start .args .ground) (start .args .text .now) (start .args .at) (start .args .mark) _ (token-at .token-at .ensures) _ (if1 .if1 .left) (if2 .if2 .taken) (c .gone2 .ensures)
 
 returns-3 : tie.Need-returns-3
 returns-3 c =
