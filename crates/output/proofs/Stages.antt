@@ -1,9 +1,10 @@
 -- What the functions that read an output return, by the tests that led there.
 use mathlib.Core.Path.{_≡_, refl, sym as inv, ap, subst, _∙_}
-use mathlib.Core.Bool.{true, cond}
+use mathlib.Core.Bool.{Bool, true, false, cond}
 use mathlib.Core.List.{List, [], _∷_}
 use Prim.Native.Nat.{ℕ, _+_, _≤_, _<_}
 use native.Mathlib.Omega.{arith}
+use lib.Dec.{eqb}
 use lib.ListN.{length, length-take, length-drop}
 use borrow.Author.Tests.{eq-eqb, ne-eqb}
 use Rattle.lexis.specs.declared.Place.{Place}
@@ -43,13 +44,27 @@ module _ (text : Bytes) (at : ℕ) (f : Found) (o : OutOfPlace text at f) (said 
   pub closed-stray : said .code ≡ 0 → (line : Place) → f ≡ Line line → (r : OutputRead) → r ≡ refused-fields 2 line → Closes text at said r
   closed-stray z line e r q = Closes.stray z line (rw e at o) q
 
--- a report is no refusal
+-- ---- what a facts line says, by its number
+
+module _ (line : Place) (f : FactsRead) where
+  by-code : (b : Bool) → eqb (f .code) 0 ≡ b → line-fields line f ≡ cond b (reported-fields Answer (f .count)) (refused-fields (f .code) (on-line line (f .place)))
+  by-code b e = ap (λ t. cond t (reported-fields Answer (f .count)) (refused-fields (f .code) (on-line line (f .place)))) e
+
+  pub line-facts : f .code ≡ 0 → line-fields line f ≡ reported-fields Answer (f .count)
+  line-facts z = by-code true (eq-eqb (f .code) 0 z)
+
+  pub line-refused : (f .code ≡ 0 → ⊥) → line-fields line f ≡ refused-fields (f .code) (on-line line (f .place))
+  line-refused n = by-code false (ne-eqb (f .code) 0 n)
+
+-- ---- a report
+
+-- it is no refusal
 report-code : (x : Report) → report-fields x .code ≡ 0
 report-code (facts line fs) = refl
 report-code claim-none = refl
 report-code claim-unknown = refl
 
--- a report that claims only
+-- one that claims only
 none-claims : (line : Place) (fs : Program true) → claim-none ≡ facts line fs → ⊥
 none-claims line fs e = let z : _≡_ {A = ℕ} 0 1 = cc in omega arith
 
@@ -108,13 +123,12 @@ module _ (program text : Bytes) (t u : Tables) where
 
         go : Line-read → Fills (Behind text Answer line next) program text t r u
         go (whole c p fs h w) =
-            let e : said ≡ reported-fields Answer (f .count) = q ∙ ap (λ b. cond b (reported-fields Answer (f .count)) (refused-fields (f .code) (on-line line (f .place)))) (eq-eqb (f .code) 0 c) in
+            let e : said ≡ reported-fields Answer (f .count) = q ∙ line-facts line f c in
             let d = closing-fills next said (facts line fs) (e ∙ ap (reported-fields Answer) (w .size)) (held fs e w) r k in
             record { given = record { outcome = d .given .outcome; stage = goes fs (d .given .outcome) (read fs h) (d .given .stage); so = d .given .so }; filled = d .filled }
         go (refuses c n h) =
             let some : f .code ≡ 0 → ⊥ = λ z. omega arith in
-            let e : said ≡ refused-fields (f .code) (on-line line (f .place)) = q ∙ ap (λ b. cond b (reported-fields Answer (f .count)) (refused-fields (f .code) (on-line line (f .place)))) (ne-eqb (f .code) 0 some) in
-            answer-refused next some h said e r k
+            answer-refused next some h said (q ∙ line-refused line f some) r k
 
 -- ---- the whole
 
