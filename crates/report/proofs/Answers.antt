@@ -11,7 +11,7 @@ use Rattle.report.specs.declared.around.Found.{Found}
 use Rattle.report.specs.declared.around.Found.the-variants.{Nothing, Line}
 use Rattle.report.specs.declared.Report.{Report}
 use Rattle.report.specs.Lines.{lines, linesFrom}
-use Rattle.report.specs.Around.{isIdle, AllIdle, First, OutOfPlace, none, some}
+use Rattle.report.specs.Around.{isIdle, AllIdle, FirstOther, OutOfPlace, none, some}
 use Rattle.report.specs.Word.{spelling, startsWith}
 use Rattle.report.specs.Report.{refused, Says, endOf, reported, Reported, missing, stray, says}
 
@@ -19,7 +19,7 @@ use Rattle.report.specs.Report.{refused, Says, endOf, reported, Reported
 
 pub data Firsts (text : List ℕ) (ls : List Place) : Type 0 where
   all-idle : AllIdle text ls → Firsts text ls
-  first : (l : Place) (behind : List Place) → First text ls l behind → Firsts text ls
+  first : (l : Place) (behind : List Place) → FirstOther text ls l behind → Firsts text ls
 
 unfoldable firsts-more : (text : List ℕ) (l : Place) (ls : List Place) (t : Bool) → isIdle (part text l) ≡ t → Firsts text ls → Firsts text (l ∷ ls)
 firsts-more text l ls true e (all-idle a) = all-idle (e, a)
@@ -41,7 +41,7 @@ out-of-place-of text at = place-of text at (firsts text (linesFrom text at))
 
 -- ---- the word that it starts with, or none
 
-module _ (text : List ℕ) (l : Place) (behind : List Place) (f : First text (lines text) l behind) where
+module _ (text : List ℕ) (l : Place) (behind : List Place) (f : FirstOther text (lines text) l behind) where
   abbrev test : Word → Bool
   test w = startsWith (spelling w) (part text l)
 

@@ -16,7 +16,7 @@ use Rattle.report.specs.declared.Report.{Report}
 use Rattle.report.specs.declared.around.Found.{Found}
 use Rattle.report.specs.declared.around.Found.the-variants.{Nothing, Line}
 use Rattle.report.specs.Lines.{linesFrom, nextLine, lineAt}
-use Rattle.report.specs.Around.{AllIdle, First, OutOfPlace, none, some}
+use Rattle.report.specs.Around.{AllIdle, FirstOther, OutOfPlace, none, some}
 use Rattle.report.specs.Word.{spelling, startsWith}
 use Rattle.report.specs.Report.{refused, found, Says, endOf, beginning, reported, Reported, missing, stray, says}
 use Rattle.report.proofs.LineList.{lines-none, lines-more, lines-its, lines-behind, next-inside}
@@ -45,14 +45,14 @@ nothing-first text at (some line behind f) e = absurd (let z : _≡_ {A = ℕ} 0
 
 -- it lies inside the text and not before the place, and the lines behind it begin behind its newline
 pub first-line : (text : List ℕ) (at : ℕ) {r : Found} → OutOfPlace text at r → (l : Place) → r ≡ Line l
-    → (at ≤ l .start) × (l .start + l .len ≤ length text) × First text (linesFrom text at) l (linesFrom text (nextLine text (l .start + l .len)))
+    → (at ≤ l .start) × (l .start + l .len ≤ length text) × FirstOther text (linesFrom text at) l (linesFrom text (nextLine text (l .start + l .len)))
 first-line text at (none all) l e = absurd (let z : _≡_ {A = ℕ} 0 1 = cc in omega arith)
 first-line text at (some line behind f) l e =
     let b = lines-behind text at (f .before) line behind (f .split) in
     subst
-    (λ (m : Place). (at ≤ m .start) × (m .start + m .len ≤ length text) × First text (linesFrom text at) m (linesFrom text (nextLine text (m .start + m .len))))
+    (λ (m : Place). (at ≤ m .start) × (m .start + m .len ≤ length text) × FirstOther text (linesFrom text at) m (linesFrom text (nextLine text (m .start + m .len))))
     (cc)
-    (b .0, b .1, subst (λ (ls : List Place). First text (linesFrom text at) line ls) (b .2) f)
+    (b .0, b .1, subst (λ (ls : List Place). FirstOther text (linesFrom text at) line ls) (b .2) f)
 
 pub report-missing : (text : List ℕ) {f : Found} → OutOfPlace text 0 f → f ≡ Nothing → (r : Report) → r ≡ refused (endOf text) → Reported text r
 report-missing text o e r q = rw q (missing (nothing-first text 0 o e))

@@ -14,7 +14,7 @@ use Rattle.report.specs.declared.word.Word.the-variants.{Answer, Inconsi
 use Rattle.report.specs.declared.around.Found.{Found}
 use Rattle.report.specs.declared.around.Found.the-variants.{Line}
 use Rattle.report.specs.declared.Report.{Report}
-use Rattle.report.specs.Around.{isIdle, AllIdle, First, OutOfPlace, none, some}
+use Rattle.report.specs.Around.{isIdle, AllIdle, FirstOther, OutOfPlace, none, some}
 use Rattle.report.specs.Word.{spelling, startsWith}
 use Rattle.report.specs.Report.{refused, Says, reported, Reported, missing, stray, says}
 
@@ -31,8 +31,8 @@ module _ (text : List ℕ) where
   same-split (b ∷ bs) [] l m ls ms e p q o u = clash b m (p .0) u (cc)
   same-split (b ∷ bs) (c ∷ cs) l m ls ms e p q o u = same-split bs cs l m ls ms (cc) (p .1) (q .1) o u
 
-  module _ {all : List Place} {l : Place} {ls : List Place} (f : First text all l ls) where
-    pub first-unique : {m : Place} {ms : List Place} → First text all m ms → (l ≡ m) × (ls ≡ ms)
+  module _ {all : List Place} {l : Place} {ls : List Place} (f : FirstOther text all l ls) where
+    pub first-unique : {m : Place} {ms : List Place} → FirstOther text all m ms → (l ≡ m) × (ls ≡ ms)
     first-unique {m} {ms} g = same-split (f .before) (g .before) l m ls ms (sym (f .split) ∙ g .split) (f .idle) (g .idle) (f .other) (g .other)
 
     pub first-not-idle : {A : Type 0} → AllIdle text all → A

@@ -21,7 +21,7 @@ AllIdle text [] = Unit {0}
 AllIdle text (l ∷ ls) = (isIdle (part text l) ≡ true) × AllIdle text ls
 
 -- `line` is the first of these lines that may not, and `behind` are the lines behind it
-pub record First (text : List ℕ) (ls : List Place) (line : Place) (behind : List Place) : Type 0 where
+pub record FirstOther (text : List ℕ) (ls : List Place) (line : Place) (behind : List Place) : Type 0 where
   pub before : List Place
   pub split : ls ≡ before ++ (line ∷ behind)
   pub idle : AllIdle text before
@@ -30,4 +30,4 @@ pub record First (text : List ℕ) (ls : List Place) (line : Place) (behind : Li
 -- the first line out of place, of the lines from a place on
 pub data OutOfPlace (text : List ℕ) (at : ℕ) : Found → Type 0 where
   none : AllIdle text (linesFrom text at) → OutOfPlace text at Nothing
-  some : (line : Place) (behind : List Place) → First text (linesFrom text at) line behind → OutOfPlace text at (Line line)
+  some : (line : Place) (behind : List Place) → FirstOther text (linesFrom text at) line behind → OutOfPlace text at (Line line)

@@ -11,7 +11,7 @@ use Rattle.report.specs.declared.word.Word.{Word}
 use Rattle.report.specs.declared.word.Word.the-variants.{Answer, Inconsistent, Unknown}
 use Rattle.report.specs.declared.Report.{Report}
 use Rattle.report.specs.Lines.{lines}
-use Rattle.report.specs.Around.{AllIdle, First}
+use Rattle.report.specs.Around.{AllIdle, FirstOther}
 use Rattle.report.specs.Word.{spelling, startsWith}
 
 -- ---- the two sorts of answers; fields that an answer does not name are zero, or the word that claims nothing
@@ -49,6 +49,6 @@ pub data Reported (text : List ℕ) : Report → Type 0 where
   -- there is none: the report is missing
   missing : AllIdle text (lines text) → Reported text (refused (endOf text))
   -- it is no report: it is out of place
-  stray : (line : Place) (behind : List Place) → First text (lines text) line behind → ((word : Word) → Says text line word → ⊥) → Reported text (refused line)
+  stray : (line : Place) (behind : List Place) → FirstOther text (lines text) line behind → ((word : Word) → Says text line word → ⊥) → Reported text (refused line)
   -- it is the report's
-  says : (line : Place) (behind : List Place) → First text (lines text) line behind → (word : Word) → Says text line word → Reported text (reported text word behind)
+  says : (line : Place) (behind : List Place) → FirstOther text (lines text) line behind → (word : Word) → Says text line word → Reported text (reported text word behind)
