@@ -10,6 +10,7 @@ use Rattle.lexis.specs.Tokens.{part}
 use Rattle.reading.specs.Reading.{tree, refused}
 use Rattle.meaning.specs.Rules.{Bytes}
 use Rattle.grammar.specs.Trees.{count, Program}
+use Rattle.grammar.specs.Sizes.{most-rules}
 use Rattle.grammar.specs.Abstraction.{facts-for}
 use Rattle.syntax.specs.Programs.{ReadAs}
 use Rattle.sentences.specs.Sentences.{sentence}
@@ -27,7 +28,7 @@ use Rattle.factline.specs.declared.line.FactsRead.{FactsRead}
 
 -- the most facts of a line
 abbrev pub most-facts : ℕ
-most-facts = 1_024
+most-facts = most-rules true
 
 -- ---- one fact into the tables
 
