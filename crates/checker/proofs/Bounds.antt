@@ -17,7 +17,7 @@ use Rattle.codes.proofs.Pairwise.{within}
 use Rattle.judge.specs.declared.Judgement.{Judgement}
 use Rattle.judge.specs.declared.Kind.the-variants.{Unsatisfied}
 use Rattle.judge.specs.Judged.{said}
-use Rattle.checker.specs.Told.{Small}
+use Rattle.verdict.specs.Told.{Small}
 
 -- facts at positions stand in the list
 placed-below : (I : List (Fact Value)) (σ : Substitution Value) (ats : List (Atom (Term Value))) (ps : List ℕ) → Placed I σ ats ps → (i : ℕ) → i < length ps → getD ps i 0 < length I

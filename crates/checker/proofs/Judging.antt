@@ -23,13 +23,13 @@ use Rattle.answered.specs.Answer as paper
 use Rattle.answered.specs.Judged.{Settled, settles}
 use Rattle.answered.specs.Answered.{rule-part}
 use Rattle.answered.proofs.Judged.{settled-is}
-use Rattle.checker.specs.declared.answer.Text.the-variants.{Program}
-use Rattle.checker.specs.declared.answer.Answer.{Answer}
-use Rattle.checker.specs.Answers.{Says}
-use Rattle.checker.specs.Told.{Tells, leaves-range, is-broken, is-accepted, is-smaller}
-use Rattle.checker.specs.Checked.{Answers}
-use Rattle.checker.proofs.Counting.{from-one-taken}
-use Rattle.checker.proofs.Saying.{accepted-says, unsatisfied-says, smaller-says}
+use Rattle.fields.specs.declared.answer.Text.the-variants.{Program}
+use Rattle.fields.specs.declared.answer.Answer.{Answer}
+use Rattle.fields.specs.Answers.{Says}
+use Rattle.verdict.specs.Told.{Tells, leaves-range, is-broken, is-accepted, is-smaller}
+use Rattle.fields.specs.Checked.{Answers}
+use Rattle.verdict.proofs.Counting.{from-one-taken}
+use Rattle.fields.proofs.Saying.{accepted-says, unsatisfied-says, smaller-says}
 use Rattle.checker.proofs.Ways.{refuses, hands-on}
 
 -- ---- lists

@@ -1,12 +1,7 @@
 -- In the order in which they build on each other.
-pub mod Kept
-pub mod Saying
-pub mod Unique
 pub mod Programs
 pub mod Ways
 pub mod Clashing
-pub mod Counting
-pub mod Telling
 pub mod Judging
 pub mod Bounds
 pub mod Settling

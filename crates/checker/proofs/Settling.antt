@@ -18,9 +18,9 @@ use Rattle.judge.specs.Judged.{said, Judged}
 use Rattle.pass.specs.Passed.{Tables}
 use Rattle.answered.specs.Answered.{rule-part}
 use Rattle.answered.specs.Judged.{Settled}
-use Rattle.checker.specs.Checked.{Answers}
-use Rattle.checker.specs.declared.answer.Answer.{Answer}
-use Rattle.checker.specs.Told.{Small, Tells}
+use Rattle.fields.specs.Checked.{Answers}
+use Rattle.fields.specs.declared.answer.Answer.{Answer}
+use Rattle.verdict.specs.Told.{Small, Tells}
 use Rattle.checker.specs.Standing.{Stands, tables-of, Settling}
 use Rattle.checker.proofs.Clashing.{facts-apart}
 use Rattle.checker.proofs.Judging.{told}

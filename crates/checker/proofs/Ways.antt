@@ -23,15 +23,16 @@ use Rattle.output.specs.Answers.{ReadsOutput}
 use Rattle.output.proofs.Uses.{Says as Reports, output-refused, output-says}
 use Rattle.answered.specs.Answer as paper
 use Rattle.answered.specs.Answered.{Reported, code-of, Check}
-use Rattle.checker.specs.declared.answer.Text.{Text}
-use Rattle.checker.specs.declared.answer.Text.the-variants.{Program as InProgram, Output as InOutput}
-use Rattle.checker.specs.declared.answer.Kind.the-variants.{ClaimedNone, ClaimedUnknown}
-use Rattle.checker.specs.declared.answer.Answer.{Answer}
-use Rattle.checker.specs.Values.{claimed, refused}
-use Rattle.checker.specs.Answers.{text-of, Says}
-use Rattle.checker.specs.Checked.{Answers}
+use Rattle.fields.specs.declared.answer.Text.{Text}
+use Rattle.fields.specs.declared.answer.Text.the-variants.{Program as InProgram, Output as InOutput}
+use Rattle.fields.specs.declared.answer.Kind.the-variants.{ClaimedNone, ClaimedUnknown}
+use Rattle.fields.specs.declared.answer.Answer.{Answer}
+use Rattle.fields.specs.Values.{claimed, refused}
+use Rattle.fields.specs.Parts.{text-of}
+use Rattle.fields.specs.Answers.{Says}
+use Rattle.fields.specs.Checked.{Answers}
 use Rattle.checker.specs.Standing.{Behind, BehindProgram}
-use Rattle.checker.proofs.Saying.{refused-says, none-says, unknown-says}
+use Rattle.fields.proofs.Saying.{refused-says, none-says, unknown-says}
 
 module _ (S : Stage paper.Result) (places : List ℕ) where
   -- a stage that refuses, and an answer that says so

@@ -16,11 +16,12 @@ use Rattle.stages.specs.Stage.{stops, goes, given, passed, without}
 use Rattle.answered.specs.Cases.{Clash}
 use Rattle.answered.specs.Answered.{rule-part, fact-part}
 use Rattle.answered.specs.Judged.{Settled}
-use Rattle.checker.specs.declared.answer.Text.the-variants.{Output}
-use Rattle.checker.specs.declared.answer.Answer.{Answer}
-use Rattle.checker.specs.Values.{refused}
-use Rattle.checker.specs.Checked.{Answers}
-use Rattle.checker.specs.Standing.{Held, Settling, Behind, fact-place, Placed, WithFacts}
+use Rattle.fields.specs.declared.answer.Text.the-variants.{Output}
+use Rattle.fields.specs.declared.answer.Answer.{Answer}
+use Rattle.fields.specs.Parts.{fact-place}
+use Rattle.fields.specs.Values.{refused}
+use Rattle.fields.specs.Checked.{Answers}
+use Rattle.checker.specs.Standing.{Held, Settling, Behind, Placed, WithFacts}
 use Rattle.checker.proofs.Clashing.{counted, first-clashes, none-clashes}
 use Rattle.checker.proofs.Ways.{refuses, answers-as}
 

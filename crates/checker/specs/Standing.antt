@@ -3,11 +3,10 @@ use mathlib.Core.Path.{_≡_}
 use mathlib.Core.Bool.{true, false}
 use mathlib.Core.List.{List}
 use Prim.Native.Nat.{ℕ, _+_, _≤_, _<_, min}
-use lib.ListN.{length, getD, take}
+use lib.ListN.{length, take}
 use Rattle.lexis.specs.declared.Place.{Place}
 use Rattle.lexis.specs.Tokens.{part}
 use Rattle.lexis.specs.Sizes.{most-text}
-use Rattle.lexis.specs.Places.{place-from}
 use Rattle.meaning.specs.Sets.{every}
 use Rattle.meaning.specs.Rules.{Bytes, Fact, Rule}
 use Rattle.meaning.specs.Values.{Value}
@@ -31,8 +30,9 @@ use Rattle.answered.specs.Answer.{Result}
 use Rattle.answered.specs.Cases.{Clash}
 use Rattle.answered.specs.Answered.{rule-part, fact-part, Reported, code-of}
 use Rattle.answered.specs.Judged.{Settled}
-use Rattle.checker.specs.declared.answer.Answer.{Answer}
-use Rattle.checker.specs.Checked.{Answers}
+use Rattle.fields.specs.declared.answer.Answer.{Answer}
+use Rattle.fields.specs.Parts.{fact-place}
+use Rattle.fields.specs.Checked.{Answers}
 
 -- as many names as the two texts can have, where each is within its size
 abbrev pub names-of-both : Bytes → Bytes → ℕ
@@ -85,10 +85,6 @@ Behind program output line places P I =
     First (fact-part output line) (Clash I) ⟫ λ _.
     Refuse 9 (start-of Text.output) (length places < length I) ⟫ λ _.
     Settled (rule-part program) P I places
-
--- where fact k stands, by tables of starts and lengths
-abbrev pub fact-place : List ℕ → List ℕ → ℕ → Place
-fact-place starts lengths k = place-from (getD starts k 0) (getD lengths k 0)
 
 -- the tables have the places of so many facts of a line
 pub record Placed (output : Bytes) (line : Place) (starts lengths : List ℕ) (count : ℕ) : Type 0 where

@@ -1,13 +1,13 @@
 // With the facts in their table: 6 and 7; 9; then the last stages.
 ghost use Rattle.checker.specs.Standing.{WithFacts, AnswersFacts};
-use crate::answer::Answer;
-use crate::answer::Text;
-use crate::answer::refused;
-use crate::clash::fact_part;
 use crate::settled::settled;
 use chains::LINKS;
 use clashes::NONE;
 use clashes::first_clash;
+use fields::answer::Answer;
+use fields::answer::Text;
+use fields::answer::refused;
+use fields::clash::fact_part;
 use lexis::NOWHERE;
 
 // The refusal of places that are fewer than the facts.

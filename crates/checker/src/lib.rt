@@ -1,11 +1,11 @@
 // The check: a program and a solver's output against the published meaning of an answer set, refusals in their order.
 ghost use Rattle.names.specs.Numbering.{Empty};
 ghost use Rattle.answered.specs.Answered.{Check};
-ghost use Rattle.checker.specs.Checked.{Answers};
+ghost use Rattle.fields.specs.Checked.{Answers};
 ghost use Rattle.checker.specs.Standing.{names-of-both};
-use answer::Answer;
-use answer::Text;
-use answer::refused;
+use fields::answer::Answer;
+use fields::answer::Text;
+use fields::answer::refused;
 use lexis::place_from;
 use lexis::sizes::MOST_TEXT;
 use names::SMALL_TEXT;
@@ -14,13 +14,9 @@ use program::space::literal_table;
 use program::space::rule_table;
 use reported::reported;
 
-pub mod answer;
-mod clash;
 mod facts;
-pub mod part;
 mod reported;
 mod settled;
-mod verdict;
 
 // The answer, with a table for the names of both texts.
 fn with_names<'a>(

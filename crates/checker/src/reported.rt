@@ -1,11 +1,11 @@
 // Behind a program that is read: the solver's output, its code, and then what it reports.
 ghost use Rattle.checker.specs.Standing.{WithRules, AnswersRules};
-use crate::answer::Answer;
-use crate::answer::Kind;
-use crate::answer::Text;
-use crate::answer::claimed;
-use crate::answer::refused;
 use crate::facts::with_facts;
+use fields::answer::Answer;
+use fields::answer::Kind;
+use fields::answer::Text;
+use fields::answer::claimed;
+use fields::answer::refused;
 use lexis::NOWHERE;
 use lexis::sizes::MOST_FACTS;
 use output::read_output;

@@ -1,8 +1,8 @@
 // The last stages, over tables that stand for the program and the candidate: 8, or the verdict.
 ghost use Rattle.checker.specs.Standing.{Settling, AnswersSettled};
-use crate::answer::Answer;
-use crate::verdict::verdict;
+use fields::answer::Answer;
 use judge::judge;
+use verdict::verdict;
 
 // The answer where the facts are distinct and consistent and there is room.
 pub fn settled<'a>(

@@ -1,8 +1,8 @@
 // What is printed, line by line.
-use checker::answer::Answer;
-use checker::answer::Kind;
 use derived::Derived;
 use derived::PLACES;
+use fields::answer::Answer;
+use fields::answer::Kind;
 use lexis::sizes::MOST_LITERALS;
 use libc::STDOUT_FILENO;
 use plain::Written;

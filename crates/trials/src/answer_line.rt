@@ -5,12 +5,12 @@ use crate::print::number;
 use crate::print::place;
 use crate::print::refused;
 use crate::print::say;
-use checker::answer::Answer;
-use checker::answer::Kind;
-use checker::answer::Part;
-use checker::answer::Text;
 use derived::Derived;
 use derived::PLACES;
+use fields::answer::Answer;
+use fields::answer::Kind;
+use fields::answer::Part;
+use fields::answer::Text;
 use lexis::parts::least;
 use lexis::sizes::MOST_LITERALS;
 

@@ -1,0 +1,4 @@
+-- In the order in which they build on each other.
+pub mod Kept
+pub mod Saying
+pub mod Unique

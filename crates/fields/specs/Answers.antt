@@ -1,0 +1,28 @@
+-- What an answer by value says: the paper's numbers and values of each kind.
+use mathlib.Core.Path.{_≡_}
+use lib.ListN.{take}
+use Rattle.derived.specs.Members.{places, holds}
+use Rattle.tables.specs.Rows.{from}
+use Rattle.answered.specs.Answer.{Answer, refused, accepted, unsatisfied, smaller, claimed-none, claimed-unknown, positions, Fields, fields}
+use Rattle.fields.specs.declared.answer.Kind.the-variants.{Refused, Accepted, Unsatisfied, Smaller, ClaimedNone, ClaimedUnknown}
+use Rattle.fields.specs.declared.answer.Kind.{Kind}
+use Rattle.fields.specs.declared.answer.Answer.{Answer as AnswerValue}
+use Rattle.fields.specs.Parts.{part-of}
+
+-- every field, whatever the kind
+abbrev pub fields-of : AnswerValue → Fields
+fields-of a = record { number = a .number; part = part-of (a .part); atoms = a .atoms; rounds = a .rounds; rule = a .rule; positions = take (a .count) (a .positions); kept = positions 1 (from (holds (a .kept)) places 0) }
+
+-- by the kind
+abbrev pub said : Kind → Fields → Answer
+said Refused f = refused (f .number) (f .part)
+said Accepted f = accepted (f .atoms) (f .rounds)
+said Unsatisfied f = unsatisfied (f .rule) (f .positions)
+said Smaller f = smaller (f .kept)
+said ClaimedNone f = claimed-none
+said ClaimedUnknown f = claimed-unknown
+
+-- the answer x of the paper: its kind's values, and zero in every field that its kind does not name
+pub record Says (a : AnswerValue) (x : Answer) : Type 0 where
+  pub says : said (a .kind) (fields-of a) ≡ x
+  pub zero : fields-of a ≡ fields x

@@ -1,0 +1,28 @@
+-- The ways through `verdict`, kind by kind.
+use mathlib.Core.Path.{_≡_}
+use mathlib.Core.Bool.{false}
+use mathlib.Core.List.{List}
+use Prim.Native.Nat.{ℕ, _+_}
+use Rattle.lexis.specs.declared.Place.{Place}
+use Rattle.meaning.specs.Rules.{Bytes}
+use Rattle.sentences.specs.Sentences.{sentence}
+use Rattle.judge.specs.declared.Judgement.{Judgement}
+use Rattle.judge.specs.declared.Kind.{Kind}
+use Rattle.judge.specs.declared.Kind.the-variants.{OutOfRange, Unsatisfied, Accepted, Smaller}
+use Rattle.fields.specs.declared.answer.Text.the-variants.{Program}
+use Rattle.fields.specs.declared.answer.Answer.{Answer}
+use Rattle.fields.specs.Values.{refused, accepted, unsatisfied, smaller}
+use Rattle.verdict.specs.Told.{FromOne, Tells, leaves-range, is-broken, is-accepted, is-smaller}
+
+module _ (text : Bytes) (j : Judgement) (n : ℕ) (kind : Kind) where
+  pub tells-range : kind ≡ OutOfRange → (place : Place) → place ≡ sentence false text (j .rule) → (a : Answer) → a ≡ refused 8 Program place → Tells text j n kind a
+  tells-range k place e a f = rw (k, f, e) leaves-range
+
+  pub tells-broken : kind ≡ Unsatisfied → (ps : List ℕ) → FromOne (j .length) (j .positions) ps → (a : Answer) → a ≡ unsatisfied (j .rule + 1) (j .length) ps → Tells text j n kind a
+  tells-broken k ps h a f = rw (k, f) (is-broken ps h)
+
+  pub tells-accepted : kind ≡ Accepted → (a : Answer) → a ≡ accepted n (j .rounds) → Tells text j n kind a
+  tells-accepted k a f = rw (k, f) is-accepted
+
+  pub tells-smaller : kind ≡ Smaller → (a : Answer) → a ≡ smaller (j .set) → Tells text j n kind a
+  tells-smaller k a f = rw (k, f) is-smaller

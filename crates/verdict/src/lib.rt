@@ -1,0 +1,56 @@
+// From a judgement over the tables to the answer.
+ghost use Prim.Native.Nat.{ℕ, _<_};
+ghost use lib.ListN.{getD};
+ghost use Rattle.verdict.specs.Told.{FromOne, Small, Tells};
+use fields::answer::Answer;
+use fields::answer::Text;
+use fields::answer::accepted;
+use fields::answer::refused;
+use fields::answer::smaller;
+use fields::answer::unsatisfied;
+use judge::Judgement;
+use judge::Kind;
+use lexis::parts::least;
+use lexis::sizes::MOST_LITERALS;
+use sentences::sentence;
+
+// The refusal where arithmetic leaves the range.
+const OUT_OF_RANGE: u8 = 8;
+
+// Positions are counted from 1.
+fn from_one(positions: [u64; MOST_LITERALS], count: usize) -> [u64; MOST_LITERALS]
+    requires { ⌜ ((i : ℕ) → i < count → i < 16 → getD positions i 0 < 1024) ⌝ }
+    ensures { λ r. ⌜ FromOne count positions r ⌝ }
+{
+    let most = least(count, MOST_LITERALS);
+    let mut counted = positions;
+    let mut i = 0;
+    while i < most {
+        counted[i] = positions[i] + 1;
+        i += 1;
+    }
+    counted
+}
+
+// The answer that a judgement gives, beside so many atoms.
+pub fn verdict(program: &[u8], judgement: Judgement, atoms: usize) -> Answer
+    requires { ⌜ Small judgement ⌝ }
+    ensures { λ a. ⌜ Tells (now (program .entry)) judgement atoms (judgement .kind) a ⌝ }
+{
+    let kind = judgement.kind;
+    let kept = judgement.set;
+    match kind {
+        Kind::OutOfRange => refused(
+            OUT_OF_RANGE,
+            Text::Program,
+            sentence(program, false, judgement.rule),
+        ),
+        Kind::Unsatisfied => {
+            let positions = judgement.positions;
+            let count = judgement.length;
+            unsatisfied(judgement.rule + 1, count, from_one(positions, count))
+        }
+        Kind::Accepted => accepted(atoms, judgement.rounds as usize),
+        Kind::Smaller => smaller(kept),
+    }
+}
