@@ -26,7 +26,7 @@ use Rattle.answered.proofs.Judged.{settled-is}
 use Rattle.fields.specs.declared.answer.Text.the-variants.{Program}
 use Rattle.fields.specs.declared.answer.Answer.{Answer}
 use Rattle.fields.specs.Answers.{Says}
-use Rattle.verdict.specs.Told.{Tells, leaves-range, is-broken, is-accepted, is-smaller}
+use Rattle.verdict.specs.Told.{positions-of, Tells, leaves-range, is-broken, is-accepted, is-smaller}
 use Rattle.fields.specs.Checked.{Answers}
 use Rattle.verdict.proofs.Counting.{from-one-taken}
 use Rattle.fields.proofs.Saying.{accepted-says, unsatisfied-says, smaller-says}
@@ -80,10 +80,10 @@ module _ (text : Bytes) (P : List (Rule Value)) (I : List (Fact Value)) (old new
       let stage = settled-is (rule-part text) P I old _ h in
       let one : j .rule + 1 ≡ suc (j .rule) = add-one (j .rule) in
       let taken = from-one-taken (j .length) (j .positions) ps f in
-      rw lent (hands-on _ old _ old stage a (says-as _ (cc (one, taken)) (unsatisfied-says (j .rule + 1) (j .length) ps)))
+      rw lent (hands-on _ old _ old stage a (says-as _ (cc (one, taken)) (unsatisfied-says (j .rule + 1) (positions-of j) ps (omega arith) (f .long) (f .behind))))
   told Accepted h lent clear a is-accepted =
       let stage = settled-is (rule-part text) P I old _ h in
       hands-on _ old _ new (rw (written n old new room (lent .0) (lent .1)) at stage) a (accepted-says n (j .rounds))
-  told Smaller h lent clear a is-smaller =
+  told Smaller h lent clear a (is-smaller words bits) =
       let stage = settled-is (rule-part text) P I old _ h in
-      rw lent (hands-on _ old _ old stage a (smaller-says (j .set) (from (holds (j .set)) n 0) (omega (arith, from-length (holds (j .set)) n 0, few)) (all-listed (holds (j .set)) n clear)))
+      rw lent (hands-on _ old _ old stage a (smaller-says (j .set) (from (holds (j .set)) n 0) (omega (arith, from-length (holds (j .set)) n 0, few)) (all-listed (holds (j .set)) n clear) words bits))

@@ -1,9 +1,9 @@
--- Two answers by value to one call are of one kind, with the same fields, and leave the same places.
+-- Two answers by value to one call are equal, and leave the same places.
 use mathlib.Core.Path.{_≡_, refl, sym as inv, ap, _∙_}
 use mathlib.Core.List.{List}
 use Prim.Native.Nat.{ℕ}
 use Rattle.meaning.specs.Rules.{Bytes}
-use Rattle.answered.specs.Answer.{Fields, fields}
+use Rattle.answered.specs.Answer.{Fields}
 use Rattle.answered.specs.Answer as paper
 use Rattle.answered.specs.Answered.{Check}
 use Rattle.answered.proofs.Unique.{answered-unique}
@@ -12,6 +12,7 @@ use Rattle.fields.specs.declared.answer.Kind.the-variants.{Refused, Acce
 use Rattle.fields.specs.declared.answer.Answer.{Answer}
 use Rattle.fields.specs.Answers.{fields-of, said, Says}
 use Rattle.fields.specs.Checked.{Answers}
+use Rattle.fields.proofs.Whole.{same-answer}
 
 kind-of : paper.Answer → Kind
 kind-of (paper.refused n p) = Refused
@@ -33,9 +34,12 @@ said-kind ClaimedUnknown f = refl
 says-kind : (a : Answer) (x : paper.Answer) → Says a x → a .kind ≡ kind-of x
 says-kind a x s = inv (said-kind (a .kind) (fields-of a)) ∙ ap kind-of (s .says)
 
--- the kind, every field of the paper, and the final places are determined. Numbers behind the count of `positions` are no field
--- of the paper's
-pub checked-unique : (the-program the-output : Bytes) (code : ℕ) (places : List ℕ) (a b : Answer) (x y : List ℕ) → Answers (Check the-program the-output code places) places a x → Answers (Check the-program the-output code places) places b y → (a .kind ≡ b .kind) × (fields-of a ≡ fields-of b) × (x ≡ y)
+-- no answer of the paper is said by two
+pub says-unique : (a b : Answer) (x : paper.Answer) → Says a x → Says b x → a ≡ b
+says-unique a b x s t = same-answer a b (s .nothing-else) (t .nothing-else) (says-kind a x s ∙ inv (says-kind b x t)) (s .zero ∙ inv (t .zero))
+
+-- the whole answer by value and the final places are determined
+pub checked-unique : (the-program the-output : Bytes) (code : ℕ) (places : List ℕ) (a b : Answer) (x y : List ℕ) → Answers (Check the-program the-output code places) places a x → Answers (Check the-program the-output code places) places b y → (a ≡ b) × (x ≡ y)
 checked-unique the-program the-output code places a b x y h k =
     let same = answered-unique the-program the-output places code _ _ x y (h .gives) (k .gives) in
-    (says-kind a _ (h .says) ∙ ap kind-of (same .0) ∙ inv (says-kind b _ (k .says)), h .says .zero ∙ ap fields (same .0) ∙ inv (k .says .zero), same .1)
+    (says-unique a b (k .answer) (rw (same .0) at (h .says)) (k .says), same .1)

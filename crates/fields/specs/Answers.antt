@@ -1,6 +1,8 @@
 -- What an answer by value says: the paper's numbers and values of each kind.
 use mathlib.Core.Path.{_≡_}
-use lib.ListN.{take}
+use Prim.Native.Nat.{ℕ, _^_, _≤_, _<_}
+use lib.ListN.{length, getD, take}
+use Rattle.grammar.specs.Sizes.{most-literals}
 use Rattle.derived.specs.Members.{places, holds}
 use Rattle.tables.specs.Rows.{from}
 use Rattle.answered.specs.Answer.{Answer, refused, accepted, unsatisfied, smaller, claimed-none, claimed-unknown, positions, Fields, fields}
@@ -22,7 +24,17 @@ said Smaller f = smaller (f .kept)
 said ClaimedNone f = claimed-none
 said ClaimedUnknown f = claimed-unknown
 
--- the answer x of the paper: its kind's values, and zero in every field that its kind does not name
+-- beside its fields there is nothing: as many positions as a body may have literals, zeros behind them, and a set of sixteen 64-bit words
+pub record NothingElse (a : AnswerValue) : Type 0 where
+  pub few : a .count ≤ most-literals
+  pub room : length (a .positions) ≡ most-literals
+  pub behind : (i : ℕ) → a .count ≤ i → getD (a .positions) i 0 ≡ 0
+  pub words : length (a .kept .words) ≡ 16
+  pub bits : (k : ℕ) → getD (a .kept .words) k 0 < 2 ^ 64
+
+-- the answer x of the paper: its kind's values, zero in every field that its kind does not name, and nothing else. No x is said by
+-- two answers (`says-unique`)
 pub record Says (a : AnswerValue) (x : Answer) : Type 0 where
   pub says : said (a .kind) (fields-of a) ≡ x
   pub zero : fields-of a ≡ fields x
+  pub nothing-else : NothingElse a

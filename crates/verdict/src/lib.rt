@@ -1,6 +1,7 @@
 // From a judgement over the tables to the answer.
-ghost use Prim.Native.Nat.{ℕ, _<_};
+ghost use Prim.Native.Nat.{ℕ, _≤_, _<_};
 ghost use lib.ListN.{getD};
+ghost use Rattle.grammar.specs.Sizes.{most-literals};
 ghost use Rattle.verdict.specs.Told.{FromOne, Small, Tells};
 use fields::answer::Answer;
 use fields::answer::Text;
@@ -17,15 +18,14 @@ use sentences::sentence;
 // The refusal where arithmetic leaves the range.
 const OUT_OF_RANGE: u8 = 8;
 
-// Positions are counted from 1.
+// Positions are counted from 1, as many as there are; behind them stand zeros.
 fn from_one(positions: [u64; MOST_LITERALS], count: usize) -> [u64; MOST_LITERALS]
-    requires { ⌜ ((i : ℕ) → i < count → i < 16 → getD positions i 0 < 1024) ⌝ }
+    requires { ⌜ (count ≤ most-literals) × ((i : ℕ) → i < count → getD positions i 0 < 1024) ⌝ }
     ensures { λ r. ⌜ FromOne count positions r ⌝ }
 {
-    let most = least(count, MOST_LITERALS);
-    let mut counted = positions;
+    let mut counted = [0; MOST_LITERALS];
     let mut i = 0;
-    while i < most {
+    while i < count {
         counted[i] = positions[i] + 1;
         i += 1;
     }
@@ -47,7 +47,7 @@ pub fn verdict(program: &[u8], judgement: Judgement, atoms: usize) -> Answer
         ),
         Kind::Unsatisfied => {
             let positions = judgement.positions;
-            let count = judgement.length;
+            let count = least(judgement.length, MOST_LITERALS);
             unsatisfied(judgement.rule + 1, count, from_one(positions, count))
         }
         Kind::Accepted => accepted(atoms, judgement.rounds as usize),

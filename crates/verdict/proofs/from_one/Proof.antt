@@ -1,49 +1,30 @@
--- `from_one` meets its contract: the positions before this one are counted from 1. Assumes nothing.
-use Prim.Native.Nat.{_-_}
+-- `from_one` meets its contract. The invariant: the positions before this one are counted from 1, and behind them stand zeros.
+-- The measure is how many are left. Assumes nothing.
+use Prim.Native.Nat.{_-_, _≤_}
 use native.Mathlib.Omega.{arith}
 use borrow.Author.Needs.{needs}
-use Rattle.verdict.proofs.Counting.{Counted, counted-none, counted-more, counted-all}
+use Rattle.verdict.specs.Told.{FromOne}
+use Rattle.verdict.proofs.Counting.{counted-none, counted-more, counted-all}
 use Rattle.verdict.proofs.from_one.Statement.{statement}
 use Rattle.verdict.proofs.from_one.Tie as tie
 
 abbrev Inv-loop : tie.InvT-loop
-Inv-loop count positions most counted₀ i₀ counted i = Counted positions counted i
+Inv-loop count positions counted₀ i₀ counted i = (i ≤ count) × FromOne i positions counted
 
 abbrev μ-loop : tie.MeasureT-loop
-μ-loop count positions most counted₀ i₀ counted i = most - i
-
-least-requires : tie.Need-least-requires Inv-loop μ-loop
-least-requires c κs = search needs
+μ-loop count positions counted₀ i₀ counted i = count - i
 
 loop-holds : tie.Need-loop-holds Inv-loop μ-loop
-loop-holds c = counted-none _
-
-mul-counted : tie.Need-mul-counted Inv-loop μ-loop
-mul-counted c = search needs
-
-array-read-counted : tie.Need-array-read-counted Inv-loop μ-loop
-array-read-counted c = search needs
+loop-holds c = (omega arith, counted-none _ (search needs))
 
 add-counted : tie.Need-add-counted Inv-loop μ-loop
-add-counted c = let l = c .before .before .before .pre (c .before .loop .i) (omega (arith, c .before .before .least .ensures, c .loop-test .taken)) (omega (arith, c .before .before .least .ensures, c .loop-test .taken)) in omega (arith, l)
-
-mul-counted-2 : tie.Need-mul-counted-2 Inv-loop μ-loop
-mul-counted-2 c = search needs
-
-array-write-counted : tie.Need-array-write-counted Inv-loop μ-loop
-array-write-counted c = search needs
-
-add-i : tie.Need-add-i Inv-loop μ-loop
-add-i c = search needs
-
-loop-less : tie.Need-loop-less Inv-loop μ-loop
-loop-less c = search needs
+add-counted c = let l = c .before .before .pre .1 (c .before .loop .i) (c .loop-test .taken) in omega (arith, l)
 
 loop-again : tie.Need-loop-again Inv-loop μ-loop
-loop-again c = counted-more _ _ _ (omega (arith, c .before .before .least .ensures, c .loop-test .taken)) (c .before .loop .inv)
+loop-again c = (omega arith, counted-more _ _ _ (omega (arith, c .loop-test .taken, c .before .before .pre .0)) (c .before .loop .inv .1))
 
 returns : tie.Need-returns Inv-loop μ-loop
-returns c = counted-all _ _ _ _ (omega (arith, c .before .before .least .ensures, c .loop-test .left)) (c .before .loop .inv)
+returns c = counted-all _ _ _ _ (omega (arith, c .loop-test .left, c .before .loop .inv .0)) (c .before .loop .inv .1)
 
 pub from-one-spec : {M : Type 1} → statement M
 from-one-spec =
@@ -51,14 +32,13 @@ from-one-spec =
     (tie.spec
     Inv-loop
     μ-loop
-    least-requires
     loop-holds
-    mul-counted
-    array-read-counted
+    (λ c. search needs)
+    (λ c. search needs)
     add-counted
-    mul-counted-2
-    array-write-counted
-    add-i
-    loop-less
+    (λ c. search needs)
+    (λ c. search needs)
+    (λ c. search needs)
+    (λ c. search needs)
     loop-again
     returns)
