@@ -10,7 +10,7 @@ use lib.ListN.{length, drop}
 use Rattle.lexis.specs.declared.Place.{Place}
 use Rattle.meaning.specs.Rules.{Bytes}
 use Rattle.meaning.specs.Values.{values}
-use Rattle.meaning.specs.AnswerSets.{Accepted}
+use Rattle.meaning.specs.AnswerSets.{Broken, Accepted}
 use Rattle.meaning.specs.Verdicts.{Verdict, Means, MeansAccepted, MeansUnsatisfied, MeansSmaller}
 use Rattle.meaning.specs.Verdicts as meant
 use Rattle.meaning.proofs.Settled.{first-breaks, not-both}
@@ -93,6 +93,21 @@ module _ (the-program the-output : Bytes) (code : ℕ) (places : List ℕ) (c : 
   pub unsatisfied-shows : (r : ℕ) (ps left : List ℕ) → Answered the-program the-output code places (unsatisfied r ps) left → MeansUnsatisfied values (rules-for c) (facts-for fs) r ps × (left ≡ places)
   unsatisfied-shows r ps left h = let s = shown (unsatisfied r ps) left h in shows-unsatisfied r ps left (s .verdict) (s .means) (s .so)
 
+  is-unsatisfied : (a : Answer) (left : List ℕ) (v : Verdict) → Theirs v → record { answer = a; places = left } ≡ says places v → Broken values (rules-for c) (facts-for fs) → (r : ℕ) × (ps : List ℕ) × (a ≡ unsatisfied r ps)
+  unfolding says Means
+  is-unsatisfied a left (meant.accepted n k ks) m e b = absurd (m .is-accepted .unbroken b)
+  is-unsatisfied a left (meant.unsatisfied r ps) m e b = (r, ps, ap (λ (r : Result). r .answer) e)
+  is-unsatisfied a left (meant.smaller bs) m e b = absurd (m .unbroken b)
+
+  -- .. exactly where an instance is broken
+  pub unsatisfied-exactly : (a : Answer) (left : List ℕ) → Answered the-program the-output code places a left → ((r : ℕ) × (ps : List ℕ) × (a ≡ unsatisfied r ps)) ↔ Broken values (rules-for c) (facts-for fs)
+  unsatisfied-exactly a left h =
+      let s = shown a left h in
+      (λ x. breaks (x .0) (x .1) (shows-unsatisfied (x .0) (x .1) left (s .verdict) (s .means) (rw (← x .2) (s .so)) .0), λ b. is-unsatisfied a left (s .verdict) (s .means) (s .so) b)
+    where
+      breaks : (r : ℕ) (ps : List ℕ) → MeansUnsatisfied values (rules-for c) (facts-for fs) r ps → Broken values (rules-for c) (facts-for fs)
+      breaks r ps m = first-breaks values value-laws (rules-for c) (facts-for fs) (m .rule-before) (m .positions-before) (m .first-broken)
+
   shows-smaller : (ps left : List ℕ) (v : Verdict) → Theirs v → record { answer = smaller ps; places = left } ≡ says places v → (bs : List Bool) × (ps ≡ positions 1 bs) × MeansSmaller values (rules-for c) (facts-for fs) bs × (left ≡ places)
   unfolding says Means
   shows-smaller ps left (meant.accepted m j ks) h e = absurd (let answers : smaller ps ≡ accepted m j = ap (λ (r : Result). r .answer) e in let z : _≡_ {A = ℕ} 0 1 = cc in omega arith)
@@ -105,3 +120,18 @@ module _ (the-program the-output : Bytes) (code : ℕ) (places : List ℕ) (c : 
   -- or, if none is broken, a smaller set that satisfies the reduct and lies inside every other that does
   pub smaller-shows : (ps left : List ℕ) → Answered the-program the-output code places (smaller ps) left → (bs : List Bool) × (ps ≡ positions 1 bs) × MeansSmaller values (rules-for c) (facts-for fs) bs × (left ≡ places)
   smaller-shows ps left h = let s = shown (smaller ps) left h in shows-smaller ps left (s .verdict) (s .means) (s .so)
+
+  is-smaller : (a : Answer) (left : List ℕ) (v : Verdict) → Theirs v → record { answer = a; places = left } ≡ says places v → ¬ Broken values (rules-for c) (facts-for fs) → ¬ Accepted values (rules-for c) (facts-for fs) → (ps : List ℕ) × (a ≡ smaller ps)
+  unfolding says Means
+  is-smaller a left (meant.accepted n k ks) m e b f = absurd (f (m .is-accepted))
+  is-smaller a left (meant.unsatisfied r ps) m e b f = absurd (b (first-breaks values value-laws (rules-for c) (facts-for fs) (m .rule-before) (m .positions-before) (m .first-broken)))
+  is-smaller a left (meant.smaller bs) m e b f = (positions 1 bs, ap (λ (r : Result). r .answer) e)
+
+  -- .. exactly where none is broken, and the plain definition does not accept
+  pub smaller-exactly : (a : Answer) (left : List ℕ) → Answered the-program the-output code places a left → ((ps : List ℕ) × (a ≡ smaller ps)) ↔ ((¬ Broken values (rules-for c) (facts-for fs)) × (¬ Accepted values (rules-for c) (facts-for fs)))
+  smaller-exactly a left h =
+      let s = shown a left h in
+      (λ x. neither (shows-smaller (x .0) left (s .verdict) (s .means) (rw (← x .1) (s .so))), λ n. is-smaller a left (s .verdict) (s .means) (s .so) (n .0) (n .1))
+    where
+      neither : {ps qs rs : List ℕ} → (bs : List Bool) × (ps ≡ positions 1 bs) × MeansSmaller values (rules-for c) (facts-for fs) bs × (qs ≡ rs) → (¬ Broken values (rules-for c) (facts-for fs)) × (¬ Accepted values (rules-for c) (facts-for fs))
+      neither (bs, e, m, k) = (m .unbroken, λ f. not-both values value-laws (rules-for c) (facts-for fs) bs f m)

@@ -1,4 +1,5 @@
 pub mod Judged
 pub mod Unique
 pub mod Numbers
+pub mod Claims
 pub mod Demands

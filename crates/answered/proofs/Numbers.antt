@@ -40,7 +40,7 @@ is-refusal (smaller ps) = false
 is-refusal claimed-none = false
 is-refusal claimed-unknown = false
 
-same-number : (m n : ℕ) → ¬ ¬ (m ≡ n) → m ≡ n
+pub same-number : (m n : ℕ) → ¬ ¬ (m ≡ n) → m ≡ n
 same-number m n d = elim (ℕ-discrete m n) [ yes e ↦ e | no f ↦ absurd (d f) ]
 
 -- ---- the numbers of each stage; those of a program are `refused-between`

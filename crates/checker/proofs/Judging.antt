@@ -1,9 +1,8 @@
 -- A judgement over the tables, and the answer that it gives, are those of the last stages: 8, or the verdict.
 use mathlib.Core.Path.{_≡_, refl, sym, ap, _∙_}
-use mathlib.Core.Bool.{Bool, false}
+use mathlib.Core.Bool.{false}
 use mathlib.Core.List.{List, _++_}
-use Prim.Native.Nat.{ℕ, zero, suc, _+_, _-_, _<_, _≤_}
-use native.Mathlib.Decide.{decLt}
+use Prim.Native.Nat.{ℕ, suc, _+_, _-_, _≤_}
 use native.Mathlib.Numerals.{add-one}
 use native.Mathlib.Omega.{arith}
 use lib.ListN.{length, getD, take, drop, take-append-drop, length-take, length-drop}
@@ -26,10 +25,11 @@ use Rattle.answered.proofs.Judged.{settled-is}
 use Rattle.fields.specs.declared.answer.Text.the-variants.{Program}
 use Rattle.fields.specs.declared.answer.Answer.{Answer}
 use Rattle.fields.specs.Answers.{Says}
-use Rattle.verdict.specs.Told.{positions-of, Tells, leaves-range, is-broken, is-accepted, is-smaller}
 use Rattle.fields.specs.Checked.{Answers}
-use Rattle.verdict.proofs.Counting.{from-one-taken}
+use Rattle.fields.proofs.Kept.{all-listed}
 use Rattle.fields.proofs.Saying.{accepted-says, unsatisfied-says, smaller-says}
+use Rattle.verdict.specs.Told.{positions-of, Tells, leaves-range, is-broken, is-accepted, is-smaller}
+use Rattle.verdict.proofs.Counting.{from-one-taken}
 use Rattle.checker.proofs.Ways.{refuses, hands-on}
 
 -- ---- lists
@@ -40,26 +40,6 @@ written n old new room long same =
     let taken : length (take n new) ≡ n = length-take n new ∙ omega arith in
     let rest : drop n old ≡ drop n new = ext-getD 0 (drop n old) (drop n new) (length-drop n old ∙ ap (λ (m : ℕ). m - n) (sym long) ∙ sym (length-drop n new)) (λ i l. getD-drop n old i 0 ∙ sym (same (n + i) (omega arith)) ∙ sym (getD-drop n new i 0)) in
     ap (λ (m : ℕ). take n new ++ drop m old) taken ∙ ap (λ (l : List ℕ). take n new ++ l) rest ∙ take-append-drop n new
-
--- the test from place k on, as a list
-listed : (f : ℕ → Bool) (n k i : ℕ) → i < n → getD (from f n k) i false ≡ f (k + i)
-unfolding from
-listed f zero k i l = absurd (omega arith)
-listed f (suc n) k zero l = let z : k ≡ k + 0 = omega arith in ap f z
-listed f (suc n) k (suc i) l = let z : suc k + i ≡ k + suc i = omega arith in listed f n (suc k) i (omega arith) ∙ ap f z
-
-behind : (f : ℕ → Bool) (n k i : ℕ) → n ≤ i → getD (from f n k) i false ≡ false
-unfolding from
-behind f zero k i l = refl
-behind f (suc n) k zero l = absurd (omega arith)
-behind f (suc n) k (suc i) l = behind f n (suc k) i (omega arith)
-
-all-listed : (f : ℕ → Bool) (n : ℕ) → ((a : ℕ) → n ≤ a → f a ≡ false) → (i : ℕ) → f i ≡ getD (from f n 0) i false
-all-listed f n h i =
-    elim (decLt i n) [
-      | yes l ↦ (let z : 0 + i ≡ i = omega arith in sym (listed f n 0 i l ∙ ap f z))
-      | no g ↦ h i (omega (arith, g)) ∙ sym (behind f n 0 i (omega (arith, g)))
-    ]
 
 -- ---- the answer
 

@@ -1,5 +1,7 @@
 -- In the order in which they build on each other.
 pub mod Kept
 pub mod Saying
+pub mod Said
 pub mod Whole
 pub mod Unique
+pub mod Promises

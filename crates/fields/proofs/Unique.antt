@@ -1,38 +1,16 @@
 -- Two answers by value to one call are equal, and leave the same places.
-use mathlib.Core.Path.{_≡_, refl, sym as inv, ap, _∙_}
+use mathlib.Core.Path.{_≡_, sym as inv, _∙_}
 use mathlib.Core.List.{List}
 use Prim.Native.Nat.{ℕ}
 use Rattle.meaning.specs.Rules.{Bytes}
-use Rattle.answered.specs.Answer.{Fields}
 use Rattle.answered.specs.Answer as paper
 use Rattle.answered.specs.Answered.{Check}
 use Rattle.answered.proofs.Unique.{answered-unique}
-use Rattle.fields.specs.declared.answer.Kind.{Kind}
-use Rattle.fields.specs.declared.answer.Kind.the-variants.{Refused, Accepted, Unsatisfied, Smaller, ClaimedNone, ClaimedUnknown}
 use Rattle.fields.specs.declared.answer.Answer.{Answer}
-use Rattle.fields.specs.Answers.{fields-of, said, Says}
+use Rattle.fields.specs.Answers.{Says}
 use Rattle.fields.specs.Checked.{Answers}
+use Rattle.fields.proofs.Said.{says-kind}
 use Rattle.fields.proofs.Whole.{same-answer}
-
-kind-of : paper.Answer → Kind
-kind-of (paper.refused n p) = Refused
-kind-of (paper.accepted n k) = Accepted
-kind-of (paper.unsatisfied r ps) = Unsatisfied
-kind-of (paper.smaller ps) = Smaller
-kind-of paper.claimed-none = ClaimedNone
-kind-of paper.claimed-unknown = ClaimedUnknown
-
-said-kind : (k : Kind) (f : Fields) → kind-of (said k f) ≡ k
-unfolding kind-of
-said-kind Refused f = refl
-said-kind Accepted f = refl
-said-kind Unsatisfied f = refl
-said-kind Smaller f = refl
-said-kind ClaimedNone f = refl
-said-kind ClaimedUnknown f = refl
-
-says-kind : (a : Answer) (x : paper.Answer) → Says a x → a .kind ≡ kind-of x
-says-kind a x s = inv (said-kind (a .kind) (fields-of a)) ∙ ap kind-of (s .says)
 
 -- no answer of the paper is said by two
 pub says-unique : (a b : Answer) (x : paper.Answer) → Says a x → Says b x → a ≡ b

@@ -1,29 +1,23 @@
 -- An answer by value is decided by its kind and its fields.
 use mathlib.Core.Path.{_≡_, refl, sym, ap, _∙_}
-use mathlib.Core.Bool.{Bool, true, false}
-use mathlib.Core.List.{List, [], _∷_}
-use Prim.Native.Nat.{ℕ, zero, suc, _+_, _≤_, _<_}
+use mathlib.Core.List.{List}
+use Prim.Native.Nat.{ℕ, _≤_}
 use native.Mathlib.Decide.{decLt}
-use native.Mathlib.Nat.{suc-inj}
 use native.Mathlib.Omega.{arith}
-use lib.ListN.{length, getD, getElem?, take, length-take}
+use lib.ListN.{length, getD, take, length-take}
 use lib.Seq.{getD-take, ext-getD}
-use borrow.Author.Tests.{le-ltb}
-use Rattle.meaning.proofs.Booleans.{some-inj}
 use Rattle.grammar.specs.Sizes.{most-literals}
 use Rattle.stages.specs.Parts.{Part}
-use Rattle.derived.specs.Members.{places, holds}
 use Rattle.derived.specs.declared.Derived.{Derived}
 use Rattle.derived.proofs.Words.{members-decide}
-use Rattle.tables.specs.Rows.{from}
-use Rattle.tables.proofs.Strides.{from-length, from-at}
-use Rattle.answered.specs.Answer.{positions, Fields}
+use Rattle.answered.specs.Answer.{Fields}
 use Rattle.fields.specs.declared.answer.Text.{Text}
 use Rattle.fields.specs.declared.answer.Text.the-variants.{Program, Output}
 use Rattle.fields.specs.declared.answer.Part.{Part as PartValue}
 use Rattle.fields.specs.declared.answer.Answer.{Answer}
 use Rattle.fields.specs.Parts.{text-of, part-of}
 use Rattle.fields.specs.Answers.{fields-of, NothingElse}
+use Rattle.fields.proofs.Kept.{members-decided}
 
 -- ---- the part
 
@@ -53,40 +47,6 @@ module _ (m n : ℕ) (ps qs : List ℕ) (few : m ≤ most-literals) (few′ : n 
         | yes k ↦ sym (getD-take m ps i 0 k) ∙ ap (λ (l : List ℕ). getD l i 0) same ∙ getD-take n qs i 0 (omega (arith, k, count-decided))
         | no k ↦ behind i (omega (arith, k)) ∙ sym (behind′ i (omega (arith, k, count-decided)))
       ])
-
--- ---- the atoms that are kept
-
--- positions that are counted from n on are n or more
-from-n-on : (n : ℕ) (bs : List Bool) (m : ℕ) (ms : List ℕ) → positions n bs ≡ m ∷ ms → n ≤ m
-unfolding positions
-from-n-on n [] m ms e = absurd (let z : _≡_ {A = ℕ} 0 1 = cc in omega arith)
-from-n-on n (true ∷ bs) m ms e = let z : n ≡ m = cc in omega arith
-from-n-on n (false ∷ bs) m ms e = let z = from-n-on (suc n) bs m ms e in omega arith
-
-positions-decide : (n : ℕ) (bs cs : List Bool) → length bs ≡ length cs → positions n bs ≡ positions n cs → bs ≡ cs
-unfolding positions
-positions-decide n [] [] l e = refl
-positions-decide n [] (c ∷ cs) l e = absurd (omega arith)
-positions-decide n (b ∷ bs) [] l e = absurd (omega arith)
-positions-decide n (true ∷ bs) (true ∷ cs) l e = ap (λ (r : List Bool). true ∷ r) (positions-decide (suc n) bs cs (suc-inj l) cc)
-positions-decide n (true ∷ bs) (false ∷ cs) l e = absurd (let z = from-n-on (suc n) cs n _ (sym e) in omega arith)
-positions-decide n (false ∷ bs) (true ∷ cs) l e = absurd (let z = from-n-on (suc n) bs n _ e in omega arith)
-positions-decide n (false ∷ bs) (false ∷ cs) l e = ap (λ (r : List Bool). false ∷ r) (positions-decide (suc n) bs cs (suc-inj l) e)
-
-module _ (s t : Derived) (same : positions 1 (from (holds s) places 0) ≡ positions 1 (from (holds t) places 0)) where
-  tests-decided : from (holds s) places 0 ≡ from (holds t) places 0
-  tests-decided = positions-decide 1 _ _ (from-length (holds s) places 0 ∙ sym (from-length (holds t) places 0)) same
-
-  past : (u : Derived) (i : ℕ) → places ≤ i → holds u i ≡ false
-  unfolding holds
-  past u i l = rw (le-ltb i places l)
-
-  members-decided : (i : ℕ) → holds s i ≡ holds t i
-  members-decided i =
-      elim (decLt i places) [
-        | yes l ↦ (let z : 0 + i ≡ i = omega arith in rw z at (some-inj (sym (from-at (holds s) places 0 i l) ∙ ap (λ (bs : List Bool). getElem? bs i) tests-decided ∙ from-at (holds t) places 0 i l)))
-        | no l ↦ past s i (omega (arith, l)) ∙ sym (past t i (omega (arith, l)))
-      ]
 
 -- ---- the whole answer
 

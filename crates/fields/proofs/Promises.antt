@@ -1,0 +1,108 @@
+-- What `check` promises, in the words of its own type: when it refuses, when it hands on a claim, and when it gives each verdict
+-- for a program and a candidate that are read, with room and nothing out of range.
+use mathlib.Core.Path.{_≡_, refl, ap, _∙_}
+use mathlib.Core.Bool.{Bool, true, false}
+use mathlib.Core.Logic.{_↔_}
+use mathlib.Core.List.{List, _++_}
+use Prim.Native.Nat.{ℕ, _≤_}
+use lib.ListN.{length, getD, take, drop}
+use Rattle.lexis.specs.declared.Place.{Place}
+use Rattle.meaning.specs.Rules.{Bytes}
+use Rattle.meaning.specs.Values.{values}
+use Rattle.meaning.specs.AnswerSets.{Broken, Accepted}
+use Rattle.meaning.specs.Verdicts.{MeansAccepted, MeansUnsatisfied, MeansSmaller}
+use Rattle.grammar.specs.Trees.{Program}
+use Rattle.grammar.specs.Abstraction.{rules-for, facts-for}
+use Rattle.stages.specs.Parts.{Part}
+use Rattle.output.specs.Output.{claim-none, claim-unknown}
+use Rattle.derived.specs.Members.{holds}
+use Rattle.answered.specs.Answer.{Fields, fields}
+use Rattle.answered.specs.Answer as paper
+use Rattle.answered.specs.Answered.{Check}
+use Rattle.answered.specs.Refusals.{Read, Case}
+use Rattle.answered.specs.Ready.{Ready}
+use Rattle.answered.proofs.Numbers as numbers
+use Rattle.answered.proofs.Claims as claims
+use Rattle.answered.proofs.Demands as demands
+use Rattle.fields.specs.declared.answer.Kind.{Kind}
+use Rattle.fields.specs.declared.answer.Kind.the-variants as kinds
+use Rattle.fields.specs.declared.answer.Answer.{Answer}
+use Rattle.fields.specs.Parts.{part-of}
+use Rattle.fields.specs.Answers.{fields-of, said}
+use Rattle.fields.specs.Checked.{Answers}
+use Rattle.fields.proofs.Kept.{kept-decided}
+use Rattle.fields.proofs.Said.{said-as, kind-said}
+
+module _ (the-program the-output : Bytes) (code : ℕ) (places : List ℕ) (a : Answer) (left : List ℕ) (h : Answers (Check the-program the-output code places) places a left) where
+  says : (k : Kind) → a .kind ≡ k → h .answer ≡ said k (fields-of a)
+  says = said-as a (h .answer) (h .says)
+
+  is : (k : Kind) (f : Fields) → h .answer ≡ said k f → a .kind ≡ k
+  is = kind-said a (h .answer) (h .says)
+
+  -- ---- the first demand
+
+  refused-fields : (n : ℕ) (p : Part) → h .answer ≡ paper.refused n p → (a .kind ≡ kinds.Refused) × (a .number ≡ n) × (part-of (a .part) ≡ p)
+  refused-fields n p e =
+      let f : fields-of a ≡ fields (paper.refused n p) = h .says .zero ∙ ap fields e in
+      (is kinds.Refused (fields (paper.refused n p)) e, ap (λ (x : Fields). x .number) f, ap (λ (x : Fields). x .part) f)
+
+  -- it refuses with the number n and the part p exactly in that case
+  pub refused-exactly : (n : ℕ) (p : Part) → ((a .kind ≡ kinds.Refused) × (a .number ≡ n) × (part-of (a .part) ≡ p)) ↔ Case the-program the-output code places n p
+  refused-exactly n p =
+      let exactly = numbers.refused-exactly the-program the-output code places (h .answer) left (h .gives) n p in
+      (λ r. exactly .0 (says kinds.Refused (r .0) ∙ cc (r .1, r .2)), λ k. refused-fields n p (exactly .1 k))
+
+  -- .. and its number is one of 1 to 10
+  pub refused-numbers : a .kind ≡ kinds.Refused → (1 ≤ a .number) × (a .number ≤ 10)
+  refused-numbers k = numbers.numbers the-program the-output code places _ _ (refused-exactly _ _ .0 (k, refl, refl))
+
+  -- it hands on that there is no answer set, or that none was found, exactly where the output reports it, with its code
+  pub claimed-none-exactly : (a .kind ≡ kinds.ClaimedNone) ↔ ((c : Program false) × Read the-program the-output code c claim-none)
+  claimed-none-exactly =
+      let exactly = claims.claimed-exactly the-program the-output code places true (h .answer) left (h .gives) in
+      (λ k. exactly .0 (says kinds.ClaimedNone k), λ x. is kinds.ClaimedNone (fields-of a) (exactly .1 x))
+
+  pub claimed-unknown-exactly : (a .kind ≡ kinds.ClaimedUnknown) ↔ ((c : Program false) × Read the-program the-output code c claim-unknown)
+  claimed-unknown-exactly =
+      let exactly = claims.claimed-exactly the-program the-output code places false (h .answer) left (h .gives) in
+      (λ k. exactly .0 (says kinds.ClaimedUnknown k), λ x. is kinds.ClaimedUnknown (fields-of a) (exactly .1 x))
+
+  -- only ACCEPTED writes
+  pub unwritten : ¬ (a .kind ≡ kinds.Accepted) → left ≡ places
+  unwritten f = claims.only-accepted-writes the-program the-output code places (h .answer) left (h .gives) (λ n k e. f (is kinds.Accepted (fields (paper.accepted n k)) e))
+
+  -- ---- the third demand
+
+  module _ (c : Program false) (line : Place) (fs : Program true) (ready : Ready the-program the-output code places c line fs) where
+    -- it accepts exactly where the plain definition does
+    pub accepted-exactly : (a .kind ≡ kinds.Accepted) ↔ Accepted values (rules-for c) (facts-for fs)
+    accepted-exactly =
+        let exactly = demands.accepted-exactly the-program the-output code places c line fs ready (h .answer) left (h .gives) in
+        (λ k. exactly .0 (a .atoms, a .rounds, says kinds.Accepted k), λ m. let x = exactly .1 m in is kinds.Accepted (fields (paper.accepted (x .0) (x .1))) (x .2))
+
+    -- .. with the number of atoms, ROUNDS, and each atom's round in the places, from the first on; later places are as they were
+    pub accepted-shows : a .kind ≡ kinds.Accepted → (ks : List ℕ) × MeansAccepted values (rules-for c) (facts-for fs) (a .atoms) (a .rounds) ks × (left ≡ ks ++ drop (length ks) places)
+    accepted-shows k = demands.accepted-shows the-program the-output code places c line fs ready (a .atoms) (a .rounds) left (rw (says kinds.Accepted k) at (h .gives))
+
+    -- it rejects by a broken instance exactly where there is one
+    pub unsatisfied-exactly : (a .kind ≡ kinds.Unsatisfied) ↔ Broken values (rules-for c) (facts-for fs)
+    unsatisfied-exactly =
+        let exactly = demands.unsatisfied-exactly the-program the-output code places c line fs ready (h .answer) left (h .gives) in
+        (λ k. exactly .0 (a .rule, take (a .count) (a .positions), says kinds.Unsatisfied k), λ m. let x = exactly .1 m in is kinds.Unsatisfied (fields (paper.unsatisfied (x .0) (x .1))) (x .2))
+
+    -- .. and shows the first of them
+    pub unsatisfied-shows : a .kind ≡ kinds.Unsatisfied → MeansUnsatisfied values (rules-for c) (facts-for fs) (a .rule) (take (a .count) (a .positions)) × (left ≡ places)
+    unsatisfied-shows k = demands.unsatisfied-shows the-program the-output code places c line fs ready (a .rule) (take (a .count) (a .positions)) left (rw (says kinds.Unsatisfied k) at (h .gives))
+
+    -- it rejects by a smaller set exactly where none is broken, and the plain definition does not accept
+    pub smaller-exactly : (a .kind ≡ kinds.Smaller) ↔ ((¬ Broken values (rules-for c) (facts-for fs)) × (¬ Accepted values (rules-for c) (facts-for fs)))
+    smaller-exactly =
+        let exactly = demands.smaller-exactly the-program the-output code places c line fs ready (h .answer) left (h .gives) in
+        (λ k. exactly .0 (_, says kinds.Smaller k), λ m. let x = exactly .1 m in is kinds.Smaller (fields (paper.smaller (x .0))) (x .1))
+
+    -- .. and shows the last of the rounds' sets: the set by value has exactly its atoms
+    pub smaller-shows : a .kind ≡ kinds.Smaller → (bs : List Bool) × ((i : ℕ) → holds (a .kept) i ≡ getD bs i false) × MeansSmaller values (rules-for c) (facts-for fs) bs × (left ≡ places)
+    smaller-shows k =
+        let x = demands.smaller-shows the-program the-output code places c line fs ready _ left (rw (says kinds.Smaller k) at (h .gives)) in
+        (x .0, kept-decided (a .kept) (x .0) (x .1), x .2, x .3)
