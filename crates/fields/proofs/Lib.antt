@@ -1,4 +1,5 @@
 -- In the order in which they build on each other.
+pub mod Cutting
 pub mod Kept
 pub mod Saying
 pub mod Said

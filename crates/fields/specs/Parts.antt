@@ -1,7 +1,8 @@
 -- The parts of the two lent texts: which text, which bytes of it, and where a fact stands.
+use mathlib.Core.Path.{_≡_}
 use mathlib.Core.List.{List}
-use Prim.Native.Nat.{ℕ}
-use lib.ListN.{getD}
+use Prim.Native.Nat.{ℕ, _+_, min}
+use lib.ListN.{length, getD}
 use Rattle.lexis.specs.declared.Place.{Place}
 use Rattle.lexis.specs.Places.{place-from}
 use Rattle.lexis.specs.Tokens.{part}
@@ -18,13 +19,24 @@ text-of Output = output
 abbrev pub part-of : PartValue → Part
 part-of p = in-text (text-of (p .text)) (p .place)
 
--- the bytes of the text that it names, from its start on, as many as it says and there are
-abbrev pub bytes-in : (program output : Bytes) → Text → Bytes
-bytes-in p o program = p
-bytes-in p o output = o
+-- of two things that belong to the two texts, the one of this text
+abbrev pub of-text : {A : Type 0} → A → A → Text → A
+of-text p o program = p
+of-text p o output = o
 
-abbrev pub part-bytes : (program output : Bytes) → PartValue → Bytes
-part-bytes p o x = part (bytes-in p o (text-of (x .text))) (x .place)
+-- where bytes stand in memory: a block, and how far into it
+abbrev pub Memory : Type 0
+Memory = ℕ × ℕ
+
+-- the part of a text that stands at `from`: the bytes from its start on, as many as it says and there are, and where they stand in the text
+pub record Cut (text : Bytes) (from : Memory) (place : Place) (bytes : Bytes) (at : Memory) : Type 0 where
+  pub same : bytes ≡ part text place
+  pub block : at .0 ≡ from .0
+  pub offset : at .1 ≡ from .1 + min (place .start) (length text)
+
+-- a part of whichever of the two texts it names
+abbrev pub HandedBack : (program : Bytes) → Memory → (output : Bytes) → Memory → PartValue → (bytes : Bytes) → Memory → Type 0
+HandedBack p from o from′ x bytes at = Cut (of-text p o (text-of (x .text))) (of-text from from′ (text-of (x .text))) (x .place) bytes at
 
 -- where fact k stands, by tables of starts and lengths
 abbrev pub fact-place : List ℕ → List ℕ → ℕ → Place

@@ -1,17 +1,28 @@
-// The bytes of the part that an answer hands back.
-ghost use mathlib.Core.Path.{_≡_};
-ghost use Rattle.fields.specs.Parts.{part-bytes};
+// The part that an answer hands back: bytes of a lent text, where they stand in it.
+ghost use Rattle.fields.specs.Parts.{Cut, HandedBack};
 use crate::answer::Part;
 use crate::answer::Text;
+use lexis::Place;
+use lexis::parts::least;
 
-// The offending part of whichever of the two lent texts holds it; of a part that reaches past its text, the bytes that are there.
+// The bytes of a place, in the text itself; of a place that reaches past the text, those that are there.
+fn cut(text: &[u8], place: Place) -> &[u8]
+    ensures { λ r. ⌜ Cut (now (text .entry)) (text .entry .ptr) place (now r) (r .ptr) ⌝ }
+{
+    let start = least(place.start, text.len());
+    let length = least(place.len, text.len() - start);
+    let end = start + length;
+    &text[start..end]
+}
+
+// The offending part of whichever of the two lent texts holds it.
 pub fn part<'a>(program: &'a [u8], output: &'a [u8], part: Part) -> &'a [u8]
-    ensures { λ r. ⌜ now r ≡ part-bytes (now (program .entry)) (now (output .entry)) part ⌝ }
+    ensures { λ r. ⌜ HandedBack (now (program .entry)) (program .entry .ptr) (now (output .entry)) (output .entry .ptr) part (now r) (r .ptr) ⌝ }
 {
     let place = part.place;
     let text = part.text;
     match text {
-        Text::Program => lexis::parts::part(program, place),
-        Text::Output => lexis::parts::part(output, place),
+        Text::Program => cut(program, place),
+        Text::Output => cut(output, place),
     }
 }
