@@ -9,6 +9,9 @@ use Rattle.verdict.proofs.Telling.{tells-range, tells-broken, tells-acc
 use Rattle.verdict.proofs.verdict.Statement.{statement}
 use Rattle.verdict.proofs.verdict.Tie as tie
 
+returns : tie.Need-returns
+returns c = tells-range _ _ _ _ (c .before .before .enum-told .given .1) _ (c .before .sentence .ensures) _ (c .refused .ensures)
+
 add-unsatisfied : tie.Need-add-unsatisfied
 add-unsatisfied c =
     let told = c .before .before .before in
@@ -21,9 +24,6 @@ from-one-requires c κs =
     let told = least .before .before in
     let small = told .before .before .before .before .pre .positions (told .enum-told2 .given .1) in
     (omega (arith, least .least .ensures), λ i l. small i (omega (arith, l, least .least .ensures)) (omega (arith, l, least .least .ensures)))
-
-returns : tie.Need-returns
-returns c = tells-range _ _ _ _ (c .before .before .enum-told .given .1) _ (c .before .sentence .ensures) _ (c .refused .ensures)
 
 returns-2 : tie.Need-returns-2
 returns-2 c =
