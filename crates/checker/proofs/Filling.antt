@@ -2,7 +2,7 @@
 use mathlib.Core.Path.{_≡_, ap, ap₂, _∙_}
 use mathlib.Core.Bool.{true, false}
 use mathlib.Core.List.{List, _++_}
-use Prim.Native.Nat.{ℕ, _≤_}
+use Prim.Native.Nat.{ℕ, _≤_, _<_}
 use native.Mathlib.Omega.{arith}
 use lib.ListN.{length, length-take}
 use lib.Seq.{take-all}
@@ -23,9 +23,17 @@ use Rattle.codes.proofs.Pairwise.{pairwise-more}
 use Rattle.codes.proofs.Names.{coded-rule-more}
 use Rattle.names.specs.Table.{most-names, few-names, names-of}
 use Rattle.names.specs.Numbering.{Empty}
-use Rattle.rows.specs.Growth.{Grows}
-use Rattle.program.specs.Rules.{Fillable, FillsRules}
-use Rattle.checker.specs.Standing.{names-of-both, RulesStand, RulesHeld, Held, Placed, WithFacts, WithRules}
+use Rattle.rows.specs.Growth.{Room, Grows}
+use Rattle.program.specs.Rules.{FillsRules}
+use Rattle.clashes.specs.declared.Clashing.{Clashing}
+use Rattle.clashes.specs.Clashes.{FirstClash}
+use Rattle.sentences.specs.Sentences.{sentence}
+use Rattle.output.specs.Output.{on-line}
+use Rattle.matching.specs.Store.{literals-in, rules-in}
+use Rattle.filling.specs.Filling.{store-size, facts-size, RulesFillable, FactsFillable, FactsFilled}
+use Rattle.fields.specs.Parts.{fact-place}
+use Rattle.checker.specs.declared.facts.Fault.{Fault}
+use Rattle.checker.specs.Standing.{names-of-both, RulesStand, RulesHeld, Held, InStore, FaultOf, WithFacts, WithRules}
 
 -- ---- an output cut to its size
 
@@ -56,12 +64,11 @@ module _ (program output : Bytes) where
   -- ---- the program's rules
 
   -- what is asked, of a table without names
-  pub program-readable : (names rules literals : List ℕ) → Empty (names-of-both program output) names → (within : Bytes) → within ≡ part output whole-size → 10_240 ≤ length rules → 52_224 ≤ length literals → Fillable program within names rules literals
-  program-readable names rules literals empty within e long wide =
+  pub program-readable : (names store : List ℕ) → Empty (names-of-both program output) names → (within : Bytes) → within ≡ part output whole-size → length store ≡ store-size → RulesFillable program within names store
+  program-readable names store empty within e long =
       record {
         room = λ size. record { in-order = empty .in-order program within size (rw e (cut-small output)); room = let r = empty .room in rw (empty .no-names program within) (omega arith) };
-        rules-long = long;
-        literals-long = wide;
+        long = long;
       }
 
   module _ (c : Program false) (p : ProgramStage program (on c)) (names rules literals : List ℕ) (total : ℕ) (names′ rules′ literals′ : List ℕ) where
@@ -82,13 +89,8 @@ module _ (program output : Bytes) where
       pub with-rules-held : length output ≤ most-text → RulesHeld program output names′ rules′ literals′ total (rules-for c)
       with-rules-held size = rules-held (of-output size)
 
-      pub with-rules-ready : Empty (names-of-both program output) names → WithRules program output names′ rules′ literals′ total
-      with-rules-ready empty =
-          record {
-            tree-of = c;
-            held = with-rules-held;
-            room = λ size. let f = of-output size in record { in-order = f .grows .in-order; room = let r = empty .room in rw (f .grows .long) (omega (arith, named f empty, read-is-read program c p .size)) };
-          }
+      pub room-for-facts : Empty (names-of-both program output) names → length output ≤ most-text → Room program output names′ (length output)
+      room-for-facts empty size = let f = of-output size in record { in-order = f .grows .in-order; room = let r = empty .room in rw (f .grows .long) (omega (arith, named f empty, read-is-read program c p .size)) }
 
   -- ---- facts
 
@@ -98,24 +100,32 @@ module _ (program output : Bytes) where
   grown-held : (names names′ rules literals : List ℕ) (total n : ℕ) (P : List (Rule Value)) → Grows program output names n names′ → RulesHeld program output names rules literals total P → RulesHeld program output names′ rules literals total P
   grown-held names names′ rules literals total n P g h = record { name-table = g .in-order; rule-table = h .rule-table; rules-stand = more-names names names′ n g _ P (h .rules-stand); safe-rules = h .safe-rules }
 
-  pub tables-lent : (t : Tables) (rules literals : List ℕ) (total : ℕ) → WithRules program output (t .names) rules literals total → 9_216 ≤ length (t .facts) → 1_024 ≤ length (t .predicates) → 1_024 ≤ length (t .starts) → 1_024 ≤ length (t .lengths) → Lent program output t
-  tables-lent t rules literals total w facts predicates starts lengths = record { room = w .room; facts-long = facts; predicates-long = predicates; starts-long = starts; lengths-long = lengths }
+  pub tables-lent : (t : Tables) (store : List ℕ) (total : ℕ) → WithRules program output (t .names) store total → facts-size ≤ length (t .facts) → 1_024 ≤ length (t .predicates) → 1_024 ≤ length (t .starts) → 1_024 ≤ length (t .lengths) → Lent program output t
+  tables-lent t store total w facts predicates starts lengths = record { room = w .room; facts-long = facts; predicates-long = predicates; starts-long = starts; lengths-long = lengths }
 
   module _ (line : Place) (fs : Program true) (t : Tables) (n : ℕ) (u : Tables) (f : FactsHeld program output line fs t n u) where
-    pub all-placed : Placed output line (u .starts) (u .lengths) n
-    all-placed = record { each = λ k l. ap₂ place-from (f .starts-hold .first k l) (f .lengths-hold .first k l) }
+    pub facts-fillable : (store : List ℕ) → length store ≡ store-size → length (u .facts) ≡ facts-size → FactsFillable (u .facts) (u .predicates) n store
+    facts-fillable store long wide = record { long = long; wide = wide; table = f .table; are-predicates = f .are-predicates }
 
-    module _ (rules literals : List ℕ) (total : ℕ) where
-      pub held-all : (P : List (Rule Value)) → RulesHeld program output (t .names) rules literals total P → Held program output (u .names) rules literals (u .facts) n total P (facts-for fs)
-      held-all P h = record { rules-held = grown-held (t .names) (u .names) rules literals total _ P (f .grows) h; fact-table = f .table; facts-stand = f .stands }
+    -- a fact that clashes has its place in the tables
+    pub has-place : 1_024 ≤ length (t .starts) → 1_024 ≤ length (t .lengths) → (r : Clashing) → ((ns : List Bytes) → FirstClash ns (u .facts) n r) → (r .number ≡ 0 → ⊥) → (r .fact < length (u .starts)) × (r .fact < length (u .lengths))
+    has-place starts lengths r found z =
+        let here = found (names-of program output (u .names)) .here z .0 in
+        (omega (arith, f .table .few, starts, f .starts-hold .same-size), omega (arith, f .table .few, lengths, f .lengths-hold .same-size))
 
-      pub with-facts-ready : 1_024 ≤ length (t .starts) → 1_024 ≤ length (t .lengths) → (P : List (Rule Value)) → RulesHeld program output (t .names) rules literals total P → WithFacts program output (u .names) rules literals (u .facts) (u .predicates) (u .starts) (u .lengths) n total
-      with-facts-ready starts lengths P h =
-          record {
-            program-rules = P;
-            candidate = facts-for fs;
-            held = held-all P h;
-            are-predicates = f .are-predicates;
-            starts-long = omega (arith, f .table .few, starts, f .starts-hold .same-size);
-            lengths-long = omega (arith, f .table .few, lengths, f .lengths-hold .same-size);
-          }
+    pub placed : (r : Clashing) → ((ns : List Bytes) → FirstClash ns (u .facts) n r) → (place : Place) → ((r .number ≡ 0 → ⊥) → place ≡ fact-place (u .starts) (u .lengths) (r .fact)) → (r .number ≡ 0 → ⊥) → place ≡ on-line line (sentence true (part output line) (r .fact))
+    placed r found place e z =
+        let here = found (names-of program output (u .names)) .here z .0 in
+        e z ∙ ap₂ place-from (f .starts-hold .first (r .fact) here) (f .lengths-hold .first (r .fact) here)
+
+    module _ (store store′ : List ℕ) (r : Clashing) (filled : FactsFilled (u .facts) n store store′ r) (total : ℕ) where
+      pub in-store : (P : List (Rule Value)) → RulesHeld program output (t .names) (rules-in store) (literals-in store) total P → InStore program output (u .names) store′ (record { facts = n; rules = total }) P (facts-for fs)
+      in-store P h =
+          let held : Held program output (u .names) (rules-in store) (literals-in store) (u .facts) n total P (facts-for fs) = record { rules-held = grown-held (t .names) (u .names) (rules-in store) (literals-in store) total _ P (f .grows) h; fact-table = f .table; facts-stand = f .stands } in
+          rw (filled .rules-are, filled .literals-are, filled .facts-are) (record { held = held; linked = filled .linked })
+
+      pub faulty : (fault : Fault) → fault .number ≡ r .number → FaultOf store′ (record { facts = n; rules = total }) fault r
+      faulty fault e = record { first-clash = rw (filled .facts-are) (filled .clash); numbered = e }
+
+      pub with-facts-ready : (P : List (Rule Value)) → RulesHeld program output (t .names) (rules-in store) (literals-in store) total P → (fault : Fault) → fault .number ≡ r .number → WithFacts program output (u .names) store′ (record { facts = n; rules = total }) fault
+      with-facts-ready P h fault e = record { program-rules = P; candidate = facts-for fs; long = filled .long; stands = in-store P h; clash = r; fault-of = faulty fault e }

@@ -1,71 +1,75 @@
 -- The ways through `with_facts`: 6 or 7; 9; the last stages.
-use mathlib.Core.Path.{_≡_, _∙_}
+use mathlib.Core.Path.{_≡_, sym, _∙_}
+use mathlib.Core.Bool.{true}
 use mathlib.Core.List.{List}
 use Prim.Native.Nat.{ℕ, _<_, _≤_}
 use native.Mathlib.Omega.{arith}
 use lib.ListN.{length}
 use Rattle.lexis.specs.declared.Place.{Place}
+use Rattle.lexis.specs.Tokens.{part}
 use Rattle.lexis.specs.Places.{nowhere}
 use Rattle.meaning.specs.Rules.{Bytes, Fact, Rule}
 use Rattle.meaning.specs.Values.{Value}
 use Rattle.names.specs.Table.{names-of}
-use Rattle.chains.specs.Links.{Linked}
+use Rattle.matching.specs.Store.{facts-in}
 use Rattle.clashes.specs.declared.Clashing.{Clashing}
-use Rattle.clashes.specs.Clashes.{FirstClash}
 use Rattle.stages.specs.Stage.{stops, goes, given, passed, without}
+use Rattle.sentences.specs.Sentences.{sentence}
+use Rattle.output.specs.Output.{on-line}
 use Rattle.answered.specs.Cases.{Clash}
 use Rattle.answered.specs.Answered.{rule-part, fact-part}
 use Rattle.answered.specs.Judged.{Settled}
 use Rattle.fields.specs.declared.answer.Text.the-variants.{Output}
 use Rattle.fields.specs.declared.answer.Answer.{Answer}
-use Rattle.fields.specs.Parts.{fact-place}
 use Rattle.fields.specs.Values.{refused}
 use Rattle.fields.specs.Checked.{Answers}
-use Rattle.checker.specs.Standing.{Held, Settling, Behind, Placed, WithFacts}
+use Rattle.checker.specs.declared.settled.Counts.{Counts}
+use Rattle.checker.specs.declared.facts.Fault.{Fault}
+use Rattle.checker.specs.Standing.{InStore, Settling, Behind, FaultOf, WithFacts}
 use Rattle.checker.proofs.Clashing.{counted, first-clashes, none-clashes}
 use Rattle.checker.proofs.Ways.{refuses, answers-as}
 
-module _ (program output : Bytes) (names rules literals facts : List ℕ) (count total : ℕ) (r : Clashing) (found : (ns : List Bytes) → FirstClash ns facts count r) where
+module _ (program output : Bytes) (names store : List ℕ) (n : Counts) (fault : Fault) (r : Clashing) (of : FaultOf store n fault r) where
   abbrev named : List Bytes
   named = names-of program output names
 
-  -- a fact that clashes has its place in the tables, and so does each before it
-  pub has-place : (predicates starts lengths : List ℕ) → WithFacts program output names rules literals facts predicates starts lengths count total → (r .number ≡ 0 → ⊥) → (k : ℕ) → k ≤ r .fact → (k < length starts) × (k < length lengths)
-  has-place predicates starts lengths w z k l = let here = found named .here z .0 in (omega (arith, w .starts-long), omega (arith, w .lengths-long))
+  none-there : fault .number ≡ 0 → r .number ≡ 0
+  none-there z = sym (of .numbered) ∙ z
 
-  module _ (P : List (Rule Value)) (I : List (Fact Value)) (h : Held program output names rules literals facts count total P I) where
-    clear : r .number ≡ 0 → (i n : ℕ) → ¬ Clash I i n
-    clear z = none-clashes named (h .rules-held .name-table .distinct) facts count I (h .facts-stand) r (found named) z
+  module _ (P : List (Rule Value)) (I : List (Fact Value)) (s : InStore program output names store n P I) where
+    clear : fault .number ≡ 0 → (i k : ℕ) → ¬ Clash I i k
+    clear z = none-clashes named (s .held .rules-held .name-table .distinct) (facts-in store) (n .facts) I (s .held .facts-stand) r (of .first-clash named) (none-there z)
 
-    long : length I ≡ count
-    long = counted named (h .rules-held .name-table .distinct) facts count I (h .facts-stand)
+    long : length I ≡ n .facts
+    long = counted named (s .held .rules-held .name-table .distinct) (facts-in store) (n .facts) I (s .held .facts-stand)
 
     module _ (line : Place) (places : List ℕ) where
       abbrev Here : Answer → List ℕ → Type 0
       Here = Answers (Behind program output line places P I) places
 
       -- 6 or 7
-      pub by-clash : (r .number ≡ 0 → ⊥) → (starts lengths : List ℕ) → Placed output line starts lengths count → (place : Place) → place ≡ fact-place starts lengths (r .fact) → (a : Answer) → a ≡ refused (r .number) Output place → Here a places
-      by-clash z starts lengths placed place e a f =
-          let stage = first-clashes named (h .rules-held .name-table .distinct) facts count I (h .facts-stand) r (found named) (fact-part output line) z in
-          let there = e ∙ placed .each (r .fact) (found named .here z .0) in
-          refuses _ places (r .number) Output place (rw there (stops _ _ stage)) a f
+      pub by-clash : (fault .number ≡ 0 → ⊥) → ((r .number ≡ 0 → ⊥) → fault .place ≡ on-line line (sentence true (part output line) (r .fact))) → (a : Answer) → a ≡ refused (fault .number) Output (fault .place) → Here a places
+      by-clash z placed a e =
+          let y : r .number ≡ 0 → ⊥ = λ w. z (of .numbered ∙ w) in
+          let stage = first-clashes named (s .held .rules-held .name-table .distinct) (facts-in store) (n .facts) I (s .held .facts-stand) r (of .first-clash named) (fact-part output line) y in
+          refuses _ places (fault .number) Output (fault .place) (rw (of .numbered, placed y) (stops _ _ stage)) a e
 
       -- 9
-      pub by-room : r .number ≡ 0 → length places < count → (a : Answer) → a ≡ refused 9 Output nowhere → Here a places
-      by-room z short a f = refuses _ places 9 Output nowhere (goes tt _ (without (clear z)) (stops _ _ (given (omega (arith, short, long))))) a f
+      pub by-room : fault .number ≡ 0 → length places < n .facts → (a : Answer) → a ≡ refused 9 Output nowhere → Here a places
+      by-room z short a e = refuses _ places 9 Output nowhere (goes tt _ (without (clear z)) (stops _ _ (given (omega (arith, short, long))))) a e
 
       -- the last stages
-      pub by-stages : r .number ≡ 0 → count ≤ length places → (a : Answer) (left : List ℕ) → Answers (Settled (rule-part program) P I places) places a left → Here a left
+      pub by-stages : fault .number ≡ 0 → n .facts ≤ length places → (a : Answer) (left : List ℕ) → Answers (Settled (rule-part program) P I places) places a left → Here a left
       by-stages z room = answers-as (Settled (rule-part program) P I places) places (Behind program output line places P I) (λ o k. goes tt _ (without (clear z)) (goes tt _ (passed (λ short. absurd (omega (arith, short, long, room)))) k))
 
-  -- the premises of the last stages
-  pub settling : (predicates starts lengths links places : List ℕ) → WithFacts program output names rules literals facts predicates starts lengths count total → Linked links facts count → r .number ≡ 0 → count ≤ length places → Settling program output names rules literals facts links count total places
-  settling predicates starts lengths links places w linked z room =
-      record {
-        program-rules = w .program-rules;
-        candidate = w .candidate;
-        stands = record { held = w .held; linked = linked };
-        unclashing = clear (w .program-rules) (w .candidate) (w .held) z;
-        room = room;
-      }
+-- the premises of the last stages
+pub settling : (program output : Bytes) (names store : List ℕ) (n : Counts) (fault : Fault) (places : List ℕ) → WithFacts program output names store n fault → fault .number ≡ 0 → n .facts ≤ length places → Settling program output names store n places
+settling program output names store n fault places w z room =
+    record {
+      program-rules = w .program-rules;
+      candidate = w .candidate;
+      long = w .long;
+      stands = w .stands;
+      unclashing = clear program output names store n fault (w .clash) (w .fault-of) (w .program-rules) (w .candidate) (w .stands) z;
+      room = room;
+    }

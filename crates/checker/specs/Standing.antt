@@ -1,9 +1,9 @@
--- Tables that stand for a program and a candidate.
+-- A store that stands for a program and a candidate.
 use mathlib.Core.Path.{_≡_}
 use mathlib.Core.Bool.{true, false}
 use mathlib.Core.List.{List}
 use Prim.Native.Nat.{ℕ, _+_, _≤_, _<_, min}
-use lib.ListN.{length, take}
+use lib.ListN.{length}
 use Rattle.lexis.specs.declared.Place.{Place}
 use Rattle.lexis.specs.Tokens.{part}
 use Rattle.lexis.specs.Sizes.{most-text}
@@ -15,11 +15,14 @@ use Rattle.codes.specs.Codes.{Coded}
 use Rattle.codes.specs.Predicates.{CodedName}
 use Rattle.codes.specs.Related.{Pairwise, RelatedAtom, RelatedRule}
 use Rattle.names.specs.Table.{most-names, names-of, Table}
-use Rattle.tables.specs.Rows.{from, fact-predicate, facts-of, rules-of}
+use Rattle.tables.specs.Rows.{facts-of, rules-of}
 use Rattle.tables.specs.WellFormed.{FactTable, RuleTable}
 use Rattle.rows.specs.Growth.{Room}
 use Rattle.chains.specs.Links.{Linked}
-use Rattle.pass.specs.Passed.{Tables}
+use Rattle.clashes.specs.declared.Clashing.{Clashing}
+use Rattle.clashes.specs.Clashes.{FirstClash}
+use Rattle.matching.specs.Store.{facts-in, literals-in, rules-in, links-in}
+use Rattle.matchings.specs.Tables.{Comparing}
 use Rattle.grammar.specs.Trees.{Program}
 use Rattle.grammar.specs.Abstraction.{rules-for}
 use Rattle.stages.specs.Parts.{Text, start-of}
@@ -31,8 +34,9 @@ use Rattle.answered.specs.Cases.{Clash}
 use Rattle.answered.specs.Answered.{rule-part, fact-part, Reported, code-of}
 use Rattle.answered.specs.Judged.{Settled}
 use Rattle.fields.specs.declared.answer.Answer.{Answer}
-use Rattle.fields.specs.Parts.{fact-place}
 use Rattle.fields.specs.Checked.{Answers}
+use Rattle.checker.specs.declared.settled.Counts.{Counts}
+use Rattle.checker.specs.declared.facts.Fault.{Fault}
 
 -- as many names as the two texts can have, where each is within its size
 abbrev pub names-of-both : Bytes → Bytes → ℕ
@@ -62,23 +66,36 @@ pub record Stands (program output : Bytes) (names rules literals facts links : L
   pub held : Held program output names rules literals facts count total P I
   pub linked : Linked links facts count
 
-abbrev pub tables-of : {program output : Bytes} {names rules literals facts links : List ℕ} {count total : ℕ} {P : List (Rule Value)} {I : List (Fact Value)} → Stands program output names rules literals facts links count total P I → Tables program output names rules literals facts links count total
-tables-of s = record { name-table = s .held .rules-held .name-table; rule-table = s .held .rules-held .rule-table; fact-table = s .held .fact-table; linked = s .linked }
+-- .. all of them in the store
+abbrev pub InStore : (program output : Bytes) (names store : List ℕ) → Counts → List (Rule Value) → List (Fact Value) → Type 0
+InStore program output names store n P I = Stands program output names (rules-in store) (literals-in store) (facts-in store) (links-in store) (n .facts) (n .rules) P I
 
 -- .. whose facts are distinct and consistent, with room for their rounds
-pub record Settling (program output : Bytes) (names rules literals facts links : List ℕ) (count total : ℕ) (places : List ℕ) : Type 0 where
+pub record Settling (program output : Bytes) (names store : List ℕ) (n : Counts) (places : List ℕ) : Type 0 where
   pub program-rules : List (Rule Value)
   pub candidate : List (Fact Value)
-  pub stands : Stands program output names rules literals facts links count total program-rules candidate
-  pub unclashing : (i n : ℕ) → ¬ Clash candidate i n
-  pub room : count ≤ length places
+  pub long : length store ≡ 102_400
+  pub stands : InStore program output names store n program-rules candidate
+  pub unclashing : (i k : ℕ) → ¬ Clash candidate i k
+  pub room : n .facts ≤ length places
 
--- the answer behind 9, for whatever the tables stand for
-abbrev pub AnswersSettled : (program output : Bytes) (names rules literals facts links : List ℕ) (count total : ℕ) → List ℕ → Answer → List ℕ → Type 0
-AnswersSettled program output names rules literals facts links count total places a left =
-    (P : List (Rule Value)) (I : List (Fact Value)) → Stands program output names rules literals facts links count total P I → Answers (Settled (rule-part program) P I places) places a left
+-- the answer behind 9, for whatever the store stands for
+abbrev pub AnswersSettled : (program output : Bytes) (names store : List ℕ) → Counts → List ℕ → Answer → List ℕ → Type 0
+AnswersSettled program output names store n places a left =
+    (P : List (Rule Value)) (I : List (Fact Value)) → InStore program output names store n P I → Answers (Settled (rule-part program) P I places) places a left
 
--- ---- with the facts in their table: 6 and 7; 9; then the last stages
+-- .. beside ranks of the names, which are those of some output and table
+pub record Judgeable (program : Bytes) (ranks store : List ℕ) (n : Counts) (places : List ℕ) : Type 0 where
+  pub output : Bytes
+  pub names : List ℕ
+  pub settling : Settling program output names store n places
+  pub comparing : Comparing (names-of program output names) ranks store (n .rules)
+
+abbrev pub AnswersJudged : (program : Bytes) (ranks store : List ℕ) → Counts → List ℕ → Answer → List ℕ → Type 0
+AnswersJudged program ranks store n places a left =
+    (output : Bytes) (names : List ℕ) (P : List (Rule Value)) (I : List (Fact Value)) → InStore program output names store n P I → Comparing (names-of program output names) ranks store (n .rules) → Answers (Settled (rule-part program) P I places) places a left
+
+-- ---- with the facts in the store: 6 and 7; 9; then the last stages
 
 abbrev pub Behind : (program output : Bytes) → Place → List ℕ → List (Rule Value) → List (Fact Value) → Stage Result
 Behind program output line places P I =
@@ -86,24 +103,25 @@ Behind program output line places P I =
     Refuse 9 (start-of Text.output) (length places < length I) ⟫ λ _.
     Settled (rule-part program) P I places
 
--- the tables have the places of so many facts of a line
-pub record Placed (output : Bytes) (line : Place) (starts lengths : List ℕ) (count : ℕ) : Type 0 where
-  pub each : (k : ℕ) → k < count → fact-place starts lengths k ≡ on-line line (sentence true (part output line) k)
+-- the first fact that clashes, if one does, has the number of the fault
+pub record FaultOf (store : List ℕ) (n : Counts) (fault : Fault) (clash : Clashing) : Type 0 where
+  pub first-clash : (ns : List Bytes) → FirstClash ns (facts-in store) (n .facts) clash
+  pub numbered : fault .number ≡ clash .number
 
--- the tables stand for rules and facts, and have the predicate and a place of each fact
-pub record WithFacts (program output : Bytes) (names rules literals facts predicates starts lengths : List ℕ) (count total : ℕ) : Type 0 where
+-- the store stands for rules and facts
+pub record WithFacts (program output : Bytes) (names store : List ℕ) (n : Counts) (fault : Fault) : Type 0 where
   pub program-rules : List (Rule Value)
   pub candidate : List (Fact Value)
-  pub held : Held program output names rules literals facts count total program-rules candidate
-  pub are-predicates : take count predicates ≡ from (fact-predicate facts) count 0
-  pub starts-long : count ≤ length starts
-  pub lengths-long : count ≤ length lengths
+  pub long : length store ≡ 102_400
+  pub stands : InStore program output names store n program-rules candidate
+  pub clash : Clashing
+  pub fault-of : FaultOf store n fault clash
 
-abbrev pub AnswersFacts : (program output : Bytes) (names rules literals facts starts lengths : List ℕ) (count total : ℕ) → List ℕ → Answer → List ℕ → Type 0
-AnswersFacts program output names rules literals facts starts lengths count total places a left =
-    (line : Place) (P : List (Rule Value)) (I : List (Fact Value)) → Held program output names rules literals facts count total P I → Placed output line starts lengths count → Answers (Behind program output line places P I) places a left
+abbrev pub AnswersFacts : (program output : Bytes) (names store : List ℕ) → Counts → Fault → List ℕ → Answer → List ℕ → Type 0
+AnswersFacts program output names store n fault places a left =
+    (line : Place) (P : List (Rule Value)) (I : List (Fact Value)) → InStore program output names store n P I → (clash : Clashing) → FaultOf store n fault clash → ((clash .number ≡ 0 → ⊥) → fault .place ≡ on-line line (sentence true (part output line) (clash .fact))) → Answers (Behind program output line places P I) places a left
 
--- ---- with the rules in their tables: the output's 1 to 4; 10; then by the report
+-- ---- with the rules in the store: the output's 1 to 4; 10; then by the report
 
 abbrev pub BehindProgram : (program output : Bytes) (code : ℕ) → List ℕ → Program false → Stage Result
 BehindProgram program output code places c =
@@ -111,12 +129,13 @@ BehindProgram program output code places c =
     Refuse 10 (start-of Text.output) (¬ (code ≡ code-of r)) ⟫ λ _.
     Reported program output places c r
 
--- the tables stand for the rules of a program, and have room for the names of the facts; all this beside an output within its size
-pub record WithRules (program output : Bytes) (names rules literals : List ℕ) (total : ℕ) : Type 0 where
+-- the store stands for the rules of a program, and the table of names has room for those of the facts; all this beside an output within its size
+pub record WithRules (program output : Bytes) (names store : List ℕ) (total : ℕ) : Type 0 where
   pub tree-of : Program false
-  pub held : length output ≤ most-text → RulesHeld program output names rules literals total (rules-for tree-of)
+  pub long : length store ≡ 102_400
+  pub held : length output ≤ most-text → RulesHeld program output names (rules-in store) (literals-in store) total (rules-for tree-of)
   pub room : length output ≤ most-text → Room program output names (length output)
 
-abbrev pub AnswersRules : (program output : Bytes) (code : ℕ) (names rules literals : List ℕ) (total : ℕ) → List ℕ → Answer → List ℕ → Type 0
-AnswersRules program output code names rules literals total places a left =
-    (c : Program false) → (length output ≤ most-text → RulesHeld program output names rules literals total (rules-for c)) → Answers (BehindProgram program output code places c) places a left
+abbrev pub AnswersRules : (program output : Bytes) (code : ℕ) (names store : List ℕ) (total : ℕ) → List ℕ → Answer → List ℕ → Type 0
+AnswersRules program output code names store total places a left =
+    (c : Program false) → (length output ≤ most-text → RulesHeld program output names (rules-in store) (literals-in store) total (rules-for c)) → Answers (BehindProgram program output code places c) places a left

@@ -1,60 +1,62 @@
-// With the facts in their table: 6 and 7; 9; then the last stages.
+// With the facts in the store: 6 and 7; 9; then the last stages.
+ghost use mathlib.Core.Path.{_≡_};
+ghost use Prim.Native.Nat.{_<_};
+ghost use lib.ListN.{length};
+ghost use Rattle.fields.specs.Parts.{fact-place};
 ghost use Rattle.checker.specs.Standing.{WithFacts, AnswersFacts};
+use crate::settled::Counts;
 use crate::settled::settled;
-use chains::LINKS;
+use clashes::Clashing;
 use clashes::NONE;
-use clashes::first_clash;
 use fields::answer::Answer;
 use fields::answer::Text;
 use fields::answer::refused;
 use fields::clash::fact_part;
 use lexis::NOWHERE;
+use lexis::Place;
 
 // The refusal of places that are fewer than the facts.
 const SHORT: u8 = 9;
 
-fn link_table() -> [u64; LINKS] {
-    [0; LINKS]
+// A fact's refusal, if it has one, and its place.
+pub struct Fault {
+    pub number: u8,
+    pub place: Place,
 }
 
-// The answer for tables that stand for the program and the facts of a line, whose predicates and places in the output are in tables too.
+// The fault of the first fact that clashes with an earlier one, by the tables of all facts' starts and lengths.
+pub fn fault_of(starts: &[u32], lengths: &[u32], clash: Clashing) -> Fault
+    requires { ⌜ ((clash .number ≡ 0 → ⊥) → (clash .fact < length (now starts)) × (clash .fact < length (now lengths))) ⌝ }
+    ensures { λ f. ⌜ (f .number ≡ clash .number) × ((clash .number ≡ 0 → ⊥) → f .place ≡ fact-place (now (starts .entry)) (now (lengths .entry)) (clash .fact)) ⌝ }
+{
+    let number = clash.number;
+    if number == NONE {
+        let place = NOWHERE;
+        return Fault { number, place };
+    }
+    let place = fact_part(starts, lengths, clash.fact);
+    Fault { number, place }
+}
+
+// The answer for a store that stands for the program and for the facts of a line, with the fault of the first fact that has one.
 pub fn with_facts<'a>(
     program: &'a [u8],
     output: &'a [u8],
     names: &[u32],
-    rules: &[u64],
-    literals: &[u64],
-    facts: &[u64],
-    predicates: &[u64],
-    starts: &[u32],
-    lengths: &[u32],
-    count: usize,
-    total: usize,
+    store: &[u64],
+    counts: Counts,
+    fault: Fault,
     places: &mut [u16],
 ) -> Answer
-    requires { ⌜ WithFacts (now program) (now output) (now names) (now rules) (now literals) (now facts) (now predicates) (now starts) (now lengths) count total ⌝ }
-    ensures { λ a. ⌜ AnswersFacts (now (program .entry)) (now (output .entry)) (now (names .entry)) (now (rules .entry)) (now (literals .entry)) (now (facts .entry)) (now (starts .entry)) (now (lengths .entry)) count total (now (places .entry)) a (now (places .exit)) ⌝ }
+    requires { ⌜ WithFacts (now program) (now output) (now names) (now store) counts fault ⌝ }
+    ensures { λ a. ⌜ AnswersFacts (now (program .entry)) (now (output .entry)) (now (names .entry)) (now (store .entry)) counts fault (now (places .entry)) a (now (places .exit)) ⌝ }
 {
-    let mut links = link_table();
-    chains::build(facts, predicates, count, &mut links);
-    let clash = first_clash(facts, &links, count);
-    if clash.number != NONE {
-        let part = fact_part(starts, lengths, clash.fact);
-        return refused(clash.number, Text::Output, part);
+    let place = fault.place;
+    if fault.number != NONE {
+        return refused(fault.number, Text::Output, place);
     }
-    if places.len() < count {
+    if places.len() < counts.facts {
         return refused(SHORT, Text::Output, NOWHERE);
     }
-    settled(
-        program,
-        output,
-        names,
-        rules,
-        literals,
-        facts,
-        &links,
-        count,
-        total,
-        places,
-    )
+    settled(program, output, names, store, counts, places)
 }

@@ -6,12 +6,11 @@ ghost use Rattle.checker.specs.Standing.{names-of-both};
 use fields::answer::Answer;
 use fields::answer::Text;
 use fields::answer::refused;
+use filling::empty_store;
+use filling::fill_rules;
 use lexis::place_from;
 use lexis::sizes::MOST_TEXT;
 use names::SMALL_TEXT;
-use program::read_program;
-use program::space::literal_table;
-use program::space::rule_table;
 use reported::reported;
 
 mod facts;
@@ -29,25 +28,15 @@ fn with_names<'a>(
     requires { ⌜ Empty (names-of-both (now program) (now output)) (now names) ⌝ }
     ensures { λ a. ⌜ Answers (Check (now (program .entry)) (now (output .entry)) code (now (places .entry))) (now (places .entry)) a (now (places .exit)) ⌝ }
 {
-    let mut rules = rule_table();
-    let mut literals = literal_table();
+    let mut store = empty_store();
     // The size of the output is not known yet, and no name is looked for behind its size.
     let within = lexis::parts::part(output, place_from(0, MOST_TEXT));
-    let read = read_program(program, within, names, &mut rules, &mut literals);
+    let read = fill_rules(program, within, names, &mut store);
     if read.code != 0 {
         let place = read.place;
         return refused(read.code, Text::Program, place);
     }
-    reported(
-        program,
-        output,
-        code,
-        names,
-        &rules,
-        &literals,
-        read.count,
-        places,
-    )
+    reported(program, output, code, names, &mut store, read.count, places)
 }
 
 // Refusals in their order, else the verdict; with ACCEPTED each atom's round in the places, from the first on.

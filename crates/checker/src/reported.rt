@@ -1,11 +1,14 @@
 // Behind a program that is read: the solver's output, its code, and then what it reports.
 ghost use Rattle.checker.specs.Standing.{WithRules, AnswersRules};
+use crate::facts::fault_of;
 use crate::facts::with_facts;
+use crate::settled::Counts;
 use fields::answer::Answer;
 use fields::answer::Kind;
 use fields::answer::Text;
 use fields::answer::claimed;
 use fields::answer::refused;
+use filling::fill_facts;
 use lexis::NOWHERE;
 use lexis::sizes::MOST_FACTS;
 use output::read_output;
@@ -23,19 +26,18 @@ fn fact_table() -> [u64; FACTS] {
     [0; FACTS]
 }
 
-// The answer with the program's rules in their tables.
+// The answer with the program's rules in the store.
 pub fn reported<'a>(
     program: &'a [u8],
     output: &'a [u8],
     code: u64,
     names: &mut [u32],
-    rules: &[u64],
-    literals: &[u64],
+    store: &mut [u64],
     total: usize,
     places: &mut [u16],
 ) -> Answer
-    requires { ⌜ WithRules (now program) (now output) (now names) (now rules) (now literals) total ⌝ }
-    ensures { λ a. ⌜ AnswersRules (now (program .entry)) (now (output .entry)) code (now (names .entry)) (now (rules .entry)) (now (literals .entry)) total (now (places .entry)) a (now (places .exit)) ⌝ }
+    requires { ⌜ WithRules (now program) (now output) (now names) (now store) total ⌝ }
+    ensures { λ a. ⌜ AnswersRules (now (program .entry)) (now (output .entry)) code (now (names .entry)) (now (store .entry)) total (now (places .entry)) a (now (places .exit)) ⌝ }
 {
     let mut facts = fact_table();
     let mut predicates = [0u64; MOST_FACTS];
@@ -50,29 +52,25 @@ pub fn reported<'a>(
         &mut starts,
         &mut lengths,
     );
+    let place = read.place;
+    let word = read.word;
     if read.code != 0 {
-        let place = read.place;
         return refused(read.code, Text::Output, place);
     }
-    let word = read.word;
     if !agrees(word, code) {
         return refused(DISAGREE, Text::Output, NOWHERE);
     }
     match word {
-        Word::Answer => with_facts(
-            program,
-            output,
-            &*names,
-            rules,
-            literals,
-            &facts,
-            &predicates,
-            &starts,
-            &lengths,
-            read.count,
-            total,
-            places,
-        ),
+        Word::Answer => {
+            let count = read.count;
+            let clash = fill_facts(&facts, &predicates, count, store);
+            let fault = fault_of(&starts, &lengths, clash);
+            let counts = Counts {
+                facts: count,
+                rules: total,
+            };
+            with_facts(program, output, &*names, &*store, counts, fault, places)
+        }
         Word::Inconsistent => claimed(Kind::ClaimedNone),
         Word::Unknown => claimed(Kind::ClaimedUnknown),
     }

@@ -13,7 +13,7 @@ use Rattle.tables.specs.Rows.{arity, atom-with, fact-predicate, fact-arguments,
 use Rattle.tables.specs.WellFormed.{FactTable}
 use Rattle.tables.proofs.Strides.{part-is, part-length}
 use Rattle.tables.proofs.Predicates.{predicate-with}
-use Rattle.binding.proofs.Rows.{few-arguments, arguments-length}
+use Rattle.tables.proofs.Lengths.{few-arguments, arguments-length}
 use Rattle.chains.specs.Links.{row-chain, InChain}
 use Rattle.chains.proofs.Keys.{in-row-chain, row-chain-unsigned}
 use Rattle.lookup.proofs.Compared.{same-arguments-sound}

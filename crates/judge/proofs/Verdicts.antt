@@ -1,13 +1,15 @@
--- From the first pass and the rounds to the outcome of the quick check.
-use mathlib.Core.Path.{_≡_, refl, sym, ap, _∙_}
-use mathlib.Core.Bool.{Bool, true, false}
+-- From what the searches and the rounds find to the outcome of the quick check.
+use mathlib.Core.Path.{_≡_, refl, sym, ap, _∙_, fun-ext}
+use mathlib.Core.Bool.{Bool, true, false, true≢false}
 use mathlib.Core.Option.{none, some}
+use mathlib.Core.Logic.{inl, inr}
 use mathlib.Core.List.{List, _∷_, map}
 use Prim.Native.Nat.{ℕ, zero, suc, _+_, _-_, _≤_, _<_}
 use native.Mathlib.Omega.{arith}
 use native.Mathlib.Decide.{decLt}
 use lib.ListN.{length, getD, take, drop, replicate}
 use lib.Seq.{drop-cons}
+use borrow.Author.Tests.{lt-ltb, le-ltb}
 use Rattle.meaning.specs.Sets.{every}
 use Rattle.meaning.specs.Domain.{Domain}
 use Rattle.meaning.specs.Rules.{Bytes, Fact, Rule}
@@ -17,20 +19,25 @@ use Rattle.meaning.specs.Graph.{level, least, rounds}
 use Rattle.meaning.specs.Verdicts.{accepted, unsatisfied, smaller}
 use Rattle.meaning.specs.Outcomes.{out-of-range, verdict}
 use Rattle.meaning.specs.Quick as check
-use Rattle.meaning.specs.Quick.{overflow, broken, edges, quick, settle, outcome}
+use Rattle.meaning.specs.Matcher.{Choice}
+use Rattle.meaning.specs.Quick.{seek, breaks, overflows, overflow, broken, edges, quick, settle, outcome}
 use Rattle.meaning.proofs.Sets.{every-in, at-in}
 use Rattle.codes.specs.Domains.{codes, code-in-range}
-use Rattle.tables.specs.Rows.{from, fact-at, facts-of}
-use Rattle.tables.proofs.Strides.{from-length, from-map, from-same}
+use Rattle.tables.specs.Layout.{positives-column}
+use Rattle.tables.specs.Rows.{from, fact-at, facts-of, rule-column}
+use Rattle.tables.proofs.Strides.{from-length, from-map, from-same, every-from}
 use Rattle.derived.specs.declared.Derived.{Derived}
 use Rattle.derived.specs.Members.{places, holds, one-if, count, size}
-use Rattle.derived.proofs.Sizes.{count-most}
-use Rattle.pass.specs.Passed.{Passed}
-use Rattle.pass.specs.declared.Pass.{Pass}
+use Rattle.derived.proofs.Sizes.{count-most, count-all}
 use Rattle.reach.proofs.Graphs.{below-fact}
-use Rattle.rounds.specs.Rounds.{RoundsOf}
-use Rattle.rounds.proofs.Limits.{cut-length, every-from}
-use Rattle.judge.specs.Judged.{said, Lent, NoneBehind, Judged, Copied}
+use Rattle.matching.specs.Store.{facts-in, literals-in, rules-in}
+use Rattle.matchings.specs.Tables.{Comparing}
+use Rattle.search.specs.declared.Scan.{Scan}
+use Rattle.search.specs.Searched.{stops, stopped, Stops}
+use Rattle.derivation.specs.declared.Limit.{Limit}
+use Rattle.derivation.specs.Rounds.{RoundsOf, rules-for, all-facts, Rounds}
+use Rattle.queue.proofs.Emptied.{cut-length}
+use Rattle.judge.specs.Judged.{said, Lent, NoneBehind, Judged, ShowsBroken, ShowsSet, Rejects, JudgedInRange, Judges, Copied}
 use Rattle.judge.specs.declared.Kind.the-variants.{OutOfRange, Unsatisfied, Accepted, Smaller}
 use Rattle.judge.specs.declared.Judgement.{Judgement}
 
@@ -42,11 +49,6 @@ part-from l zero k h = refl
 part-from l (suc n) k h = rw (drop-cons l k 0 (omega arith)) (ap (λ (t : List ℕ). getD l k 0 ∷ t) (part-from l n (suc k) (omega arith)))
 
 -- ---- how many pass
-
-count-all : (f : ℕ → Bool) (n : ℕ) → ((a : ℕ) → a < n → f a ≡ true) → count f n ≡ n
-unfolding count one-if
-count-all f zero h = refl
-count-all f (suc n) h = rw (h n (omega arith)) (omega (arith, count-all f n (λ a k. h a (omega arith))))
 
 count-full : (f : ℕ → Bool) (n : ℕ) → n ≤ count f n → (a : ℕ) → a < n → f a ≡ true
 unfolding count one-if
@@ -110,19 +112,15 @@ module _ (names : List Bytes) (P : List (Rule ℕ)) (facts : List ℕ) (n : ℕ)
   long : length I ≡ n
   long = from-length (fact-at facts) n 0
 
-  pub unbroken-passed : (p : Pass) → Passed names P I p → p .over ≡ false → p .broken ≡ false → broken (codes names) P I ≡ none
-  unfolding when
-  unbroken-passed p passed h b = rw b at (passed .first-broken h)
+  -- the search for operations that leave the range decides
+  pub judged-over : (rounds : List ℕ) (j : Judgement) → j .kind ≡ OutOfRange → (at : List ℕ) → overflow (codes names) code-in-range P I ≡ some (record { rule = j .rule; at = at }) → Judged names P I rounds rounds j
+  unfolding said Lent NoneBehind
+  judged-over rounds j k at o = record { says = rw (k, said) (outcome-over names P I (j .rule) (at, o)); lent = rw (k, Lent) refl; none-behind = rw (k, NoneBehind) tt }
 
-  -- the first pass decides
-  module _ (p : Pass) (passed : Passed names P I p) (rounds : List ℕ) (j : Judgement) where
-    pub judged-over : p .over ≡ true → j .kind ≡ OutOfRange → j .rule ≡ p .rule → Judged names P I rounds rounds j
-    unfolding said Lent NoneBehind
-    judged-over h k e = record { says = rw (k, said, e) (outcome-over names P I (p .rule) (passed .out-of-range h)); lent = rw (k, Lent) refl; none-behind = rw (k, NoneBehind) tt }
-
-    pub judged-broken : p .over ≡ false → p .broken ≡ true → j .kind ≡ Unsatisfied → j .rule ≡ p .rule → j .length ≡ p .length → j .positions ≡ p .positions → Judged names P I rounds rounds j
-    unfolding said Lent NoneBehind when
-    judged-broken h b k e l q = record { says = rw (k, said, e, l, q) (outcome-broken names P I (passed .in-range h) (p .rule) (take (p .length) (p .positions)) (rw b at (passed .first-broken h))); lent = rw (k, Lent) refl; none-behind = rw (k, NoneBehind) tt }
+  -- the first broken instance does
+  pub judged-broken : overflow (codes names) code-in-range P I ≡ none → (rounds : List ℕ) (j : Judgement) → ShowsBroken names P I j → Judged names P I rounds rounds j
+  unfolding said Lent NoneBehind
+  judged-broken in-range rounds j b = record { says = rw (b .is, said) (outcome-broken names P I in-range (j .rule) (take (j .length) (j .positions)) (b .first)); lent = rw (b .is, Lent) refl; none-behind = rw (b .is, NoneBehind) tt }
 
   -- the rounds decide
   module _ (in-range : overflow (codes names) code-in-range P I ≡ none) (unbroken : broken (codes names) P I ≡ none) (table table′ : List ℕ) (set : Derived) (k : ℕ) (found : RoundsOf (codes names) P I table table′ set k) (few : n ≤ places) where
@@ -142,9 +140,11 @@ module _ (names : List Bytes) (P : List (Rule ℕ)) (facts : List ℕ) (n : ℕ)
         go false e = refl
         go true e = absurd (omega (arith, sized, count-all (holds set) n (λ a l. at-place a l ∙ every-in (levels k) I (fact-at facts a) (at-in I a (fact-at facts a) (below-fact facts n a l)) e)))
 
-    pub judged-smaller : size set < n → (rounds : List ℕ) (j : Judgement) → j .kind ≡ Smaller → j .set ≡ set → Judged names P I rounds rounds j
+    pub judged-smaller : size set < n → (rounds : List ℕ) (j : Judgement) → ShowsSet names P I set j → Judged names P I rounds rounds j
     unfolding said Lent NoneBehind
-    judged-smaller h rounds j e s =
+    judged-smaller h rounds j shows =
+        let e = shows .is in
+        let s = shows .kept in
         let kept : from (holds set) (length I) 0 ≡ map (levels k) I = ap (λ (m : ℕ). from (holds set) m 0) long ∙ from-same (holds set) (λ i. levels k (fact-at facts i)) n 0 (λ i a b. at-place i (omega arith)) ∙ sym (from-map (levels k) (fact-at facts) n 0) in
         record { says = rw (e, said, s, kept) (rw (← found .is-rounds) at (outcome-smaller names P I in-range unbroken (rw (← found .is-rounds) (not-whole h)))); lent = rw (e, Lent) refl; none-behind = rw (e, NoneBehind, s) (λ a l. found .none a l) }
 
@@ -167,3 +167,87 @@ module _ (names : List Bytes) (P : List (Rule ℕ)) (facts : List ℕ) (n : ℕ)
 -- the table that the rounds are worked out in, as code cuts it
 pub cut-wide : (n size : ℕ) → n ≤ size → length {A = ℕ} (take (n - 0) (drop 0 (replicate size 0))) ≡ n
 cut-wide n size h = let e : n - 0 ≡ n = omega arith in rw e (cut-length n size 0 h)
+
+-- ---- what the searches say
+
+same-over : (names : List Bytes) (I : List (Fact ℕ)) → stops true names I ≡ overflows (codes names) code-in-range
+unfolding stops
+same-over names I = fun-ext (λ r. fun-ext (λ c. refl))
+
+same-broken : (names : List Bytes) (I : List (Fact ℕ)) → stops false names I ≡ breaks (codes names) I
+unfolding stops
+same-broken names I = fun-ext (λ r. fun-ext (λ c. refl))
+
+module _ (names : List Bytes) (I : List (Fact ℕ)) (P : List (Rule ℕ)) where
+  over-seek : (range : Bool) → range ≡ true → seek (codes names) (stops range names I) I 0 P ≡ overflow (codes names) code-in-range P I
+  unfolding overflow
+  over-seek true e = ap (λ (test : Rule ℕ → Choice ℕ → Bool). seek (codes names) test I 0 P) (same-over names I)
+  over-seek false e = absurd (true≢false (sym e))
+
+  broken-seek : (range : Bool) → range ≡ false → seek (codes names) (stops range names I) I 0 P ≡ broken (codes names) P I
+  unfolding broken
+  broken-seek false e = ap (λ (test : Rule ℕ → Choice ℕ → Bool). seek (codes names) test I 0 P) (same-broken names I)
+  broken-seek true e = absurd (true≢false e)
+
+module _ (ranks store : List ℕ) (scan : Scan) (positions positions′ : List ℕ) (r : ℕ) (found : Stops ranks store scan positions positions′ r) (names : List Bytes) (c : Comparing names ranks store (scan .total)) where
+  at-rule : r < scan .total → stopped store (scan .total) r positions′ ≡ some (record { rule = r; at = take (rule-column (rules-in store) r positives-column) positions′ })
+  unfolding when
+  at-rule h = rw (lt-ltb r (scan .total) h) refl
+
+  at-none : scan .total ≤ r → stopped store (scan .total) r positions′ ≡ none
+  unfolding when
+  at-none h = rw (le-ltb r (scan .total) h) refl
+
+  module _ (range : scan .range ≡ true) where
+    whole-over : overflow (codes names) code-in-range (rules-for store (scan .total)) (all-facts store (scan .count)) ≡ stopped store (scan .total) r positions′
+    whole-over = sym (over-seek names (all-facts store (scan .count)) (rules-for store (scan .total)) (scan .range) range) ∙ found .found names c
+
+    pub over-at : r < scan .total → overflow (codes names) code-in-range (rules-for store (scan .total)) (all-facts store (scan .count)) ≡ some (record { rule = r; at = take (rule-column (rules-in store) r positives-column) positions′ })
+    over-at h = whole-over ∙ at-rule h
+
+    pub over-none : scan .total ≤ r → overflow (codes names) code-in-range (rules-for store (scan .total)) (all-facts store (scan .count)) ≡ none
+    over-none h = whole-over ∙ at-none h
+
+  module _ (verdict-only : scan .range ≡ false) where
+    whole-broken : broken (codes names) (rules-for store (scan .total)) (all-facts store (scan .count)) ≡ stopped store (scan .total) r positions′
+    whole-broken = sym (broken-seek names (all-facts store (scan .count)) (rules-for store (scan .total)) (scan .range) verdict-only) ∙ found .found names c
+
+    pub broken-at : r < scan .total → broken (codes names) (rules-for store (scan .total)) (all-facts store (scan .count)) ≡ some (record { rule = r; at = take (rule-column (rules-in store) r positives-column) positions′ })
+    broken-at h = whole-broken ∙ at-rule h
+
+    pub broken-none : scan .total ≤ r → broken (codes names) (rules-for store (scan .total)) (all-facts store (scan .count)) ≡ none
+    broken-none h = whole-broken ∙ at-none h
+
+    pub shows-broken : r < scan .total → (j : Judgement) → j .kind ≡ Unsatisfied → j .rule ≡ r → j .length ≡ rule-column (rules-in store) r positives-column → j .positions ≡ positions′ → ShowsBroken names (rules-for store (scan .total)) (all-facts store (scan .count)) j
+    shows-broken h j e a b p = record { is = e; first = rw (a, b, p) (broken-at h) }
+
+    pub shows-set : scan .total ≤ r → (set : Derived) (j : Judgement) → j .kind ≡ Smaller → j .set ≡ set → ShowsSet names (rules-for store (scan .total)) (all-facts store (scan .count)) set j
+    shows-set h set j e k = record { is = e; unbroken = broken-none h; kept = k }
+
+-- ---- a candidate that is not accepted
+
+module _ (ranks store : List ℕ) (scan : Scan) (table table′ : List ℕ) (limit : Limit) (found : Rounds ranks store (scan .count) (scan .total) table table′ limit) (few : scan .count ≤ places) (j : Judgement) (rejects : Rejects ranks store scan (limit .set) j) (rounds : List ℕ) where
+  -- an instance is broken
+  pub judged-rejected : limit .broken ≡ true → JudgedInRange ranks store (scan .count) (scan .total) rounds rounds j
+  judged-rejected b names c in-range =
+      elim (rejects names c) [
+        | inl s ↦ judged-broken names (rules-for store (scan .total)) (facts-in store) (scan .count) in-range rounds j s
+        | inr s ↦ absurd (found .some-broken names c b (s .unbroken))
+      ]
+
+  -- none was met, and a fact is not derived
+  pub judged-short : limit .broken ≡ false → size (limit .set) < scan .count → JudgedInRange ranks store (scan .count) (scan .total) rounds rounds j
+  judged-short b h names c in-range =
+      elim (rejects names c) [
+        | inl s ↦ judged-broken names (rules-for store (scan .total)) (facts-in store) (scan .count) in-range rounds j s
+        | inr s ↦ judged-smaller names (rules-for store (scan .total)) (facts-in store) (scan .count) in-range (s .unbroken) table table′ (limit .set) (limit .rounds) (found .limit names c b (s .unbroken)) few h rounds j s
+      ]
+
+-- ---- a candidate all of whose facts are derived
+
+module _ (ranks store : List ℕ) (n total : ℕ) (table table′ : List ℕ) (limit : Limit) (found : Rounds ranks store n total table table′ limit) (few : n ≤ places) (unmet : limit .broken ≡ false) (h : n ≤ size (limit .set)) (rounds rounds′ : List ℕ) (copied : Copied table′ rounds rounds′) (wide : length table ≡ n) (room : n ≤ length rounds) where
+  pub judged-whole : (j : Judgement) → j .kind ≡ Accepted → j .rounds ≡ limit .rounds → JudgedInRange ranks store n total rounds rounds′ j
+  judged-whole j e s names c in-range =
+      let sized = size-below (limit .set) n few (found .only-facts names c unmet) in
+      let unbroken = found .unbroken names c unmet (count-full (holds (limit .set)) n (omega (arith, sized))) in
+      judged-accepted names (rules-for store total) (facts-in store) n in-range unbroken table table′ (limit .set) (limit .rounds) (found .limit names c unmet unbroken) few h rounds rounds′ copied wide room j e s

@@ -1,19 +1,29 @@
 -- What a judgement says, as an outcome of the meaning, and what it does with the lent places.
 use mathlib.Core.Path.{_≡_}
 use mathlib.Core.Bool.{false}
+use mathlib.Core.Option.{none, some}
+use mathlib.Core.Logic.{_⊎_}
 use mathlib.Core.List.{List, map}
 use Prim.Native.Nat.{ℕ, suc, _≤_, _<_}
-use lib.ListN.{length, getD, take}
+use lib.ListN.{length, getD, take, replicate}
 use Rattle.meaning.specs.Rules.{Bytes, Fact, Rule}
 use Rattle.meaning.specs.Verdicts.{accepted, unsatisfied, smaller}
 use Rattle.meaning.specs.Outcomes.{Outcome, out-of-range, verdict}
-use Rattle.meaning.specs.Quick.{outcome}
+use Rattle.meaning.specs.Quick.{broken, overflow, outcome}
 use Rattle.codes.specs.Domains.{codes, code-in-range}
 use Rattle.tables.specs.Rows.{from}
+use Rattle.derived.specs.declared.Derived.{Derived}
 use Rattle.derived.specs.Members.{holds}
+use Rattle.matchings.specs.Tables.{Comparing}
+use Rattle.search.specs.declared.Scan.{Scan}
+use Rattle.derivation.specs.Rounds.{rules-for, all-facts}
 use Rattle.judge.specs.declared.Kind.{Kind}
 use Rattle.judge.specs.declared.Kind.the-variants.{OutOfRange, Unsatisfied, Accepted, Smaller}
 use Rattle.judge.specs.declared.Judgement.{Judgement}
+
+-- every field but the kind is zero
+abbrev pub blank : Kind → Judgement
+blank kind = record { kind = kind; rule = 0; length = 0; positions = replicate 16 0; rounds = 0; set = record { words = replicate 16 0 } }
 
 -- beside n atoms and the rounds in the lent places; a rule's number and positions are held from 0, and said from 1
 unfoldable pub said : Kind → Judgement → ℕ → List ℕ → Outcome
@@ -40,6 +50,29 @@ pub record Judged (names : List Bytes) (P : List (Rule ℕ)) (I : List (Fact ℕ
   pub says : said (j .kind) j (length I) rounds′ ≡ outcome (codes names) code-in-range P I
   pub lent : Lent (j .kind) (length I) rounds rounds′
   pub none-behind : NoneBehind (j .kind) j (length I)
+
+-- ---- over the store, whatever the names
+
+abbrev pub Judges : List ℕ → List ℕ → ℕ → ℕ → List ℕ → List ℕ → Judgement → Type 0
+Judges ranks store count total rounds rounds′ j = (names : List Bytes) → Comparing names ranks store total → Judged names (rules-for store total) (all-facts store count) rounds rounds′ j
+
+abbrev pub JudgedInRange : List ℕ → List ℕ → ℕ → ℕ → List ℕ → List ℕ → Judgement → Type 0
+JudgedInRange ranks store count total rounds rounds′ j = (names : List Bytes) → Comparing names ranks store total → overflow (codes names) code-in-range (rules-for store total) (all-facts store count) ≡ none → Judged names (rules-for store total) (all-facts store count) rounds rounds′ j
+
+-- the first broken instance; or none is broken, and the judgement has the set
+pub record ShowsBroken (names : List Bytes) (P : List (Rule ℕ)) (I : List (Fact ℕ)) (j : Judgement) : Type 0 where
+  pub is : j .kind ≡ Unsatisfied
+  pub first : broken (codes names) P I ≡ some (record { rule = j .rule; at = take (j .length) (j .positions) })
+
+pub record ShowsSet (names : List Bytes) (P : List (Rule ℕ)) (I : List (Fact ℕ)) (set : Derived) (j : Judgement) : Type 0 where
+  pub is : j .kind ≡ Smaller
+  pub unbroken : broken (codes names) P I ≡ none
+  pub kept : j .set ≡ set
+
+abbrev pub Rejects : List ℕ → List ℕ → Scan → Derived → Judgement → Type 0
+Rejects ranks store scan set j = (names : List Bytes) → Comparing names ranks store (scan .total) → ShowsBroken names (rules-for store (scan .total)) (all-facts store (scan .count)) j ⊎ ShowsSet names (rules-for store (scan .total)) (all-facts store (scan .count)) set j
+
+-- ---- copying
 
 -- one list at the start of another, which is otherwise as it was
 pub record Copied (source place place′ : List ℕ) : Type 0 where

@@ -1,16 +1,17 @@
-// The judgement over the tables: refusal 8, or the verdict.
+// The judgement over the store: refusal 8, or the verdict.
 use derived::Derived;
+use matching::FACTS;
+use matching::LITERALS;
+use matchings::positives::positives;
+use search::Scan;
+use search::first_stop;
 ghost use mathlib.Core.Path.{_≡_};
-ghost use mathlib.Core.Option.{none};
+ghost use mathlib.Core.Bool.{false};
 ghost use Prim.Native.Nat.{_≤_};
 ghost use lib.ListN.{length};
-ghost use Rattle.meaning.specs.Quick.{broken, overflow};
-ghost use Rattle.codes.specs.Domains.{codes, code-in-range};
-ghost use Rattle.names.specs.Table.{names-of};
-ghost use Rattle.tables.specs.Rows.{facts-of, rules-of};
-ghost use Rattle.pass.specs.Passed.{Tables};
-ghost use Rattle.reach.specs.Reach.{Apart};
-ghost use Rattle.judge.specs.Judged.{Judged, Copied};
+ghost use Rattle.matchings.specs.Tables.{Tables};
+ghost use Rattle.search.specs.Searched.{Scanning};
+ghost use Rattle.judge.specs.Judged.{blank, Copied, Rejects, JudgedInRange, Judges};
 
 pub enum Kind {
     OutOfRange,
@@ -19,7 +20,7 @@ pub enum Kind {
     Smaller,
 }
 
-// The rule and the positions are from 0; what a kind does not name is zero.
+// The rule and the positions, as many as `length` says, are from 0.
 pub struct Judgement {
     pub kind: Kind,
     pub rule: usize,
@@ -27,6 +28,20 @@ pub struct Judgement {
     pub positions: [u64; 16],
     pub rounds: u16,
     pub set: Derived,
+}
+
+// A judgement of this kind in which everything is zero.
+fn blank(kind: Kind) -> Judgement
+    ensures { λ j. ⌜ j ≡ blank kind ⌝ }
+{
+    Judgement {
+        kind,
+        rule: 0,
+        length: 0,
+        positions: [0; 16],
+        rounds: 0,
+        set: Derived { words: [0; 16] },
+    }
 }
 
 // The first places are as the source.
@@ -41,120 +56,86 @@ fn copy(source: &[u16], place: &mut [u16])
     }
 }
 
-// The verdict where no instance is broken. The rounds are worked out in the table, and lent places are written once they are all known.
-fn derived_verdict<'a>(
-    program: &'a [u8],
-    output: &'a [u8],
-    names: &[u32],
-    rules: &[u64],
-    literals: &[u64],
-    facts: &[u64],
-    links: &[u64],
-    count: usize,
-    total: usize,
+// A candidate that is not accepted: the first broken instance or, where none is broken, the atoms that are derived.
+fn rejected(store: &[u64], ranks: &[u32], scan: Scan, set: Derived) -> Judgement
+    requires { ⌜ Scanning (now store) scan × (scan .range ≡ false) ⌝ }
+    ensures { λ j. ⌜ Rejects (now (ranks .entry)) (now (store .entry)) scan set j ⌝ }
+{
+    let mut positions = [0u64; 16];
+    let rule = first_stop(store, ranks, &mut positions, scan);
+    if rule < scan.total {
+        let mut broken = blank(Kind::Unsatisfied);
+        broken.rule = rule;
+        broken.length = positives(store, rule);
+        broken.positions = positions;
+        return broken;
+    }
+    let mut smaller = blank(Kind::Smaller);
+    smaller.set = set;
+    smaller
+}
+
+// The verdict where no operation leaves the range. The rounds are worked out in the table, and lent places are written once they are all
+// known. Instances are walked in order only where one is broken or a fact is not derived.
+fn verdict(
+    store: &[u64],
+    ranks: &[u32],
+    scan: Scan,
     table: &mut [u16],
     rounds: &mut [u16],
 ) -> Judgement
-    requires { ⌜ Tables (now program) (now output) (now names) (now rules) (now literals) (now facts) (now links) count total × Apart (now facts) count × (overflow (codes (names-of (now program) (now output) (now names))) code-in-range (rules-of (now rules) (now literals) total) (facts-of (now facts) count) ≡ none) × (broken (codes (names-of (now program) (now output) (now names))) (rules-of (now rules) (now literals) total) (facts-of (now facts) count) ≡ none) × (length (now table) ≡ count) × (count ≤ length (now rounds)) ⌝ }
-    ensures { λ j. ⌜ Judged (names-of (now (program .entry)) (now (output .entry)) (now (names .entry))) (rules-of (now (rules .entry)) (now (literals .entry)) total) (facts-of (now (facts .entry)) count) (now (rounds .entry)) (now (rounds .exit)) j ⌝ }
+    requires { ⌜ Scanning (now store) scan × (scan .range ≡ false) × (length (now table) ≡ scan .count) × (scan .count ≤ length (now rounds)) ⌝ }
+    ensures { λ j. ⌜ JudgedInRange (now (ranks .entry)) (now (store .entry)) (scan .count) (scan .total) (now (rounds .entry)) (now (rounds .exit)) j ⌝ }
 {
-    let limit = rounds::rounds(
-        program,
-        output,
-        names,
-        rules,
-        literals,
-        facts,
-        links,
-        count,
-        total,
-        table,
-    );
+    let limit = derivation::rounds(store, ranks, scan.count, scan.total, table);
     let set = limit.set;
-    if set.size() < count {
-        return Judgement {
-            kind: Kind::Smaller,
-            rule: 0,
-            length: 0,
-            positions: [0; 16],
-            rounds: 0,
-            set,
-        };
+    if limit.broken {
+        return rejected(store, ranks, scan, set);
+    }
+    if set.size() < scan.count {
+        return rejected(store, ranks, scan, set);
     }
     copy(table, rounds);
-    let number = limit.rounds;
-    Judgement {
-        kind: Kind::Accepted,
-        rule: 0,
-        length: 0,
-        positions: [0; 16],
-        rounds: number,
-        set,
-    }
+    let mut accepted = blank(Kind::Accepted);
+    accepted.rounds = limit.rounds;
+    accepted
 }
 
 // Refusal 8, or the verdict; each atom's round stands in its place of the lent ones where the candidate is accepted.
-pub fn judge<'a>(
-    program: &'a [u8],
-    output: &'a [u8],
-    names: &[u32],
-    rules: &[u64],
-    literals: &[u64],
-    facts: &[u64],
-    links: &[u64],
+pub fn judge(
+    store: &[u64],
+    ranks: &[u32],
     count: usize,
     total: usize,
     rounds: &mut [u16],
 ) -> Judgement
-    requires { ⌜ Tables (now program) (now output) (now names) (now rules) (now literals) (now facts) (now links) count total × Apart (now facts) count × (count ≤ length (now rounds)) ⌝ }
-    ensures { λ j. ⌜ Judged (names-of (now (program .entry)) (now (output .entry)) (now (names .entry))) (rules-of (now (rules .entry)) (now (literals .entry)) total) (facts-of (now (facts .entry)) count) (now (rounds .entry)) (now (rounds .exit)) j ⌝ }
+    requires { ⌜ Tables (now store) count total × (count ≤ length (now rounds)) ⌝ }
+    ensures { λ j. ⌜ Judges (now (ranks .entry)) (now (store .entry)) count total (now (rounds .entry)) (now (rounds .exit)) j ⌝ }
 {
-    let pass = pass::first_pass(
-        program,
-        output,
-        names,
-        rules,
-        literals,
-        facts,
-        links,
-        count,
-        total,
+    let most = sizes::largest(&store[FACTS..LITERALS], count);
+    let mut positions = [0u64; 16];
+    let over = first_stop(
+        store,
+        ranks,
+        &mut positions,
+        Scan {
+            count,
+            total,
+            range: true,
+            most,
+        },
     );
-    let rule = pass.rule;
-    if pass.over {
-        return Judgement {
-            kind: Kind::OutOfRange,
-            rule,
-            length: 0,
-            positions: [0; 16],
-            rounds: 0,
-            set: Derived::empty(),
-        };
+    if over < total {
+        let mut out = blank(Kind::OutOfRange);
+        out.rule = over;
+        return out;
     }
-    if pass.broken {
-        let length = pass.length;
-        let positions = pass.positions;
-        return Judgement {
-            kind: Kind::Unsatisfied,
-            rule,
-            length,
-            positions,
-            rounds: 0,
-            set: Derived::empty(),
-        };
-    }
-    let mut table = [0u16; 1024];
-    derived_verdict(
-        program,
-        output,
-        names,
-        rules,
-        literals,
-        facts,
-        links,
+    let scan = Scan {
         count,
         total,
-        &mut table[0..count],
-        rounds,
-    )
+        range: false,
+        most,
+    };
+    let mut table = [0u16; 1024];
+    verdict(store, ranks, scan, &mut table[0..count], rounds)
 }

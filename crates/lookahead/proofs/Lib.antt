@@ -2,4 +2,3 @@ pub mod Standing
 pub mod Ahead
 pub mod Ends
 pub mod Arrivals
-pub mod ByValue

@@ -1,2 +1,1 @@
 pub mod Unbroken
-pub mod HeadKnown

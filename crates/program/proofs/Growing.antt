@@ -74,7 +74,7 @@ module _ (rules rules′ literals literals′ : List ℕ) (r : ℕ) (a : Agrees 
     same-equation = equation-part literals′ l ∙ ap (λ (t : List ℕ). equation-at t 0) (a .same-literal l low high) ∙ sym (equation-part literals l)
 
     same-side : SideRow literals l → SideRow literals′ l
-    same-side s = record { first = λ e. s .first (sym (same-column 5 (omega arith)) ∙ e); second = λ z e. s .second (λ q. z (same-column 3 (omega arith) ∙ q)) (sym (same-column 6 (omega arith)) ∙ e) }
+    same-side s = record { on-left = λ e. s .on-left (sym (same-column 4 (omega arith)) ∙ e); first = λ e. s .first (sym (same-column 5 (omega arith)) ∙ e); second = λ z e. s .second (λ q. z (same-column 3 (omega arith) ∙ q)) (sym (same-column 6 (omega arith)) ∙ e) }
 
   same-head : head-at literals′ (rule-column rules r 0) ≡ head-at literals (rule-column rules r 0)
   unfolding head-at

@@ -1,4 +1,4 @@
 pub mod Taking
 pub mod Pushing
 pub mod Stamping
-pub mod Running
+pub mod Emptied

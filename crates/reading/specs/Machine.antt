@@ -1,5 +1,5 @@
--- A reader that goes from left to right, one token after the other. It is a proof's tool and no promise: a reading is defined
--- without it, and every lawful machine gives the reading.
+-- A reader that goes from left to right, one token after the other. It is a proof's tool: a reading is defined without it, and every lawful
+-- machine gives the reading. Contracts of functions that read a part of a text speak of it, and those of whole texts do not.
 use mathlib.Core.Path.{_≡_}
 use mathlib.Core.Option.{Option, none, some}
 use mathlib.Core.List.{List, [], _∷_}

@@ -12,7 +12,7 @@ spelling Answer = 65 ∷ 78 ∷ 83 ∷ 87 ∷ 69 ∷ 82 ∷ []
 spelling Inconsistent = 73 ∷ 78 ∷ 67 ∷ 79 ∷ 78 ∷ 83 ∷ 73 ∷ 83 ∷ 84 ∷ 69 ∷ 78 ∷ 84 ∷ []
 spelling Unknown = 85 ∷ 78 ∷ 75 ∷ 78 ∷ 79 ∷ 87 ∷ 78 ∷ []
 
--- the bytes start with those of a word, and anything may follow (`starts-with`, `with-word`)
+-- the bytes start with those of a word, and anything may follow (`starts-with`)
 unfoldable pub startsWith : List ℕ → List ℕ → Bool
 startsWith [] bytes = true
 startsWith (w ∷ word) [] = false

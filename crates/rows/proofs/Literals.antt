@@ -52,11 +52,11 @@ module _ (names : List Bytes) where
     coded-compared =
         record {
           related = both-builtin (comparison-at k) (left .related) (both-plain (right .related));
-          side = λ z. record { first = right .valued; second = λ other. absurd (other refl) };
+          side = λ z. record { on-left = left .valued; first = right .valued; second = λ other. absurd (other refl) };
         }
 
     pub coded-computed : {v : Term Value} (o c : ℕ) → o < no-operation → CodedTerm names c v → CodedLiteral names (built-in-row k o a b c) (builtin (comparison-at k) t (computed u (operation-at o) v))
     unfolding literal-at side-at
     coded-computed {v} o c h operand =
         let s : RelatedSide (Coded names) (side-at (built-in-row k o a b c) 0) (computed u (operation-at o) v) = rw (ne-eqb o no-operation (λ e. omega arith)) (both-computed (right .related) (operation-at o) (operand .related)) in
-        record { related = both-builtin (comparison-at k) (left .related) s; side = λ z. record { first = right .valued; second = λ other. operand .valued } }
+        record { related = both-builtin (comparison-at k) (left .related) s; side = λ z. record { on-left = left .valued; first = right .valued; second = λ other. operand .valued } }

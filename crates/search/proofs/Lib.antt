@@ -3,3 +3,4 @@ pub mod Stopping
 pub mod Searching
 pub mod Stays
 pub mod Seeking
+pub mod AllTaken

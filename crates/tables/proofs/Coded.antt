@@ -12,7 +12,7 @@ use Rattle.meaning.specs.Values.{Value}
 use Rattle.codes.specs.Codes.{Coded}
 use Rattle.codes.specs.Predicates.{CodedName}
 use Rattle.codes.specs.Related.{Pairwise, end, pair, RelatedLiteral}
-use Rattle.tables.specs.Layout.{sort-column, operation-column, first-column, second-column, negated-sort}
+use Rattle.tables.specs.Layout.{sort-column, operation-column, terms-column, first-column, second-column, negated-sort}
 use Rattle.tables.specs.Rows.{from, literal-column, literal-at}
 use Rattle.tables.specs.WellFormed.{SideRow}
 use Rattle.tables.specs.Stored.{row-at}
@@ -45,6 +45,7 @@ module _ (names : List Bytes) (literals : List ℕ) (first : ℕ) (ms : List (Li
       let m = at-row (row-at literals) (length ms) first ms coded l p q in
       let s = m .1 .side (rw (column-part literals l sort-column (omega arith)) at h) in
       record {
+        on-left = λ e. s .on-left (sym (column-part literals l terms-column (omega arith)) ∙ e);
         first = λ e. s .first (sym (column-part literals l first-column (omega arith)) ∙ e);
         second = λ o e. s .second (λ z. o (column-part literals l operation-column (omega arith) ∙ z)) (sym (column-part literals l second-column (omega arith)) ∙ e);
       }

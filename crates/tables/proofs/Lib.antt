@@ -3,3 +3,4 @@ pub mod Predicates
 pub mod Stored
 pub mod RowParts
 pub mod Coded
+pub mod Lengths

@@ -1,5 +1,6 @@
 -- Laws of things at fixed strides: `from`, members by place, and parts.
 use mathlib.Core.Path.{_≡_, refl, sym, ap, ap₂, _∙_}
+use mathlib.Core.Bool.{Bool, true}
 use mathlib.Core.Logic.{inl, inr}
 use mathlib.Core.Option.{some}
 use mathlib.Core.List.{List, [], _∷_, _++_, map}
@@ -8,7 +9,8 @@ use native.Mathlib.Omega.{arith}
 use native.Mathlib.Numerals.{add-one}
 use lib.ListN.{length, getD, getElem?, take, drop, length-drop}
 use lib.Seq.{length-take-le}
-use Rattle.meaning.specs.Sets.{In}
+use Rattle.meaning.specs.Sets.{In, every}
+use Rattle.meaning.proofs.Booleans.{and-both}
 use Rattle.codes.proofs.Pairwise.{within}
 use Rattle.tables.specs.Rows.{from}
 
@@ -73,3 +75,8 @@ part-length n k l h = length-take-le n (drop k l) (omega (arith, length-drop k l
 -- a part of a slice from k to k + n
 pub part-is : (k n : ℕ) (l : List ℕ) → take (k + n - k) (drop k l) ≡ take n (drop k l)
 part-is k n l = let e : k + n - k ≡ n = omega arith in rw e
+
+pub every-from : {A : Type 0} (f : A → Bool) (g : ℕ → A) (n k : ℕ) → ((i : ℕ) → k ≤ i → i < k + n → f (g i) ≡ true) → every f (from g n k) ≡ true
+unfolding every from
+every-from f g zero k h = refl
+every-from f g (suc n) k h = and-both (f (g k)) (every f (from g n (suc k))) (h k (omega arith) (omega arith)) (every-from f g n (suc k) (λ i a b. h i (omega arith) (omega arith)))

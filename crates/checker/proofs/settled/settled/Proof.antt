@@ -1,28 +1,35 @@
--- `settled` meets its contract: the judgement over the tables, and the answer that it gives. Assumes nothing.
-use mathlib.Core.Path.{_≡_}
-use lib.ListN.{length}
+-- `settled` meets its contract: ranks where a rule asks for an order, any numbers where none does. Assumes nothing.
+use Rattle.checker.proofs.Settling.{rules-inside, comparing-plain, names-cut}
 use borrow.Author.Needs.{needs}
-use Rattle.checker.proofs.Settling.{judgeable, room-to-count, gives}
 use Rattle.checker.proofs.settled.settled.Statement.{statement}
 use Rattle.checker.proofs.settled.settled.Tie as tie
 
-judge-requires : tie.Need-judge-requires
-judge-requires c κs = judgeable _ _ _ _ _ _ _ _ _ _ (c .before .before .before .before .before .before .before .before .before .pre)
+any-orders-requires : tie.Need-any-orders-requires
+any-orders-requires c κs = rules-inside _ _ _ _ _ _ (c .before .before .before .before .before .before .pre)
 
-verdict-requires : tie.Need-verdict-requires
-verdict-requires c κs =
-    let p = c .before .before .before .before .before .before .before .before .before .before .before .before .pre in
-    let wide : length (c .before .before .judge .result .positions) ≡ 16 = search needs in
-    room-to-count _ _ _ _ _ _ _ _ _ (p .program-rules) (p .candidate) (p .stands) _ _ (p .room) (c .before .before .judge .result) (c .before .before .judge .ensures) wide
+judged-requires : tie.Need-judged-requires
+judged-requires c κs = record { output = c .before .before .before .before .before .before .before .before .before .before .args .output .now; names = c .before .before .before .before .before .before .before .before .before .before .args .names .now; settling = c .before .before .before .before .before .before .before .before .before .before .pre; comparing = comparing-plain _ _ _ _ _ _ (c .before .before .before .before .before .before .before .before .before .before .pre) _ (names-cut _ _ _ _ _ _ (c .before .before .before .before .before .before .before .before .before .before .pre)) (c .before .before .before .any-orders .ensures (c .before .before .if1 .left)) }
 
-same-length : tie.Need-same-length
-same-length c = search needs
-
-returns : tie.Need-returns
-returns c =
-    let judge = c .before .before .before in
-    let start = judge .before .before .before .before .before .before .before .before .before .before in
-    λ P I s. gives _ _ _ _ _ _ _ _ _ P I s _ _ (start .pre .room) (judge .judge .result) (judge .judge .ensures) _ (c .verdict .ensures)
+returns-2 : tie.Need-returns-2
+returns-2 c = λ P I s. c .before .before .judged .ensures _ _ P I s (comparing-plain _ _ _ _ _ _ (c .before .before .before .before .before .before .before .before .before .before .before .before .before .pre) _ (names-cut _ _ _ _ _ _ (c .before .before .before .before .before .before .before .before .before .before .before .before .before .pre)) (c .before .before .before .before .before .before .any-orders .ensures (c .before .before .before .before .before .if1 .left)))
 
 pub settled-spec : {M : Type 1} → statement M
-settled-spec = tie.close (tie.spec judge-requires verdict-requires same-length returns)
+settled-spec =
+    tie.close
+    (tie.spec
+    (λ c. search needs)
+    (λ c. search needs)
+    any-orders-requires
+    (λ c κs. search needs)
+    (λ c. search needs)
+    (λ c. search needs)
+    (λ c. search needs)
+    (λ c κs. search needs)
+    (λ c. search needs)
+    (λ c. search needs)
+    (λ c. search needs)
+    (λ c. search needs)
+    (λ c. search needs)
+    judged-requires
+    (λ c. search needs)
+    returns-2)

@@ -1,4 +1,4 @@
--- `order::comes_before` meets its contract. The invariant: the one comes before the other where what is left of it does.
+-- `names::bytewise::comes_before` meets its contract. The invariant: the one comes before the other where what is left of it does.
 -- The measure is what is left of the first. Assumes nothing.
 use Prim.Native.Nat.{_-_}
 use mathlib.Core.Path.{_≡_, refl, sym, _∙_}

@@ -1,0 +1,70 @@
+-- `complete_one` meets its contract: a variable that has a value, a right side without one, and one with a value. Assumes nothing.
+use native.Mathlib.Omega.{arith}
+use Rattle.tables.specs.Rows.{literal-column}
+use Rattle.derived.proofs.Bits.{one-shifted}
+use Rattle.matching.proofs.Masks.{bit-set, bit-clear}
+use Rattle.overflow.proofs.Completing.{has-value, no-right, has-right}
+use borrow.Author.Needs.{needs}
+use Rattle.overflow.proofs.complete_one.Statement.{statement}
+use Rattle.overflow.proofs.complete_one.Tie as tie
+
+mul-x : tie.Need-mul-x
+mul-x c = search needs
+
+add-x : tie.Need-add-x
+add-x c = search needs
+
+mul-x-2 : tie.Need-mul-x-2
+mul-x-2 c = search needs
+
+shared-slice-read-x : tie.Need-shared-slice-read-x
+shared-slice-read-x c = search needs
+
+shr-if1 : tie.Need-shr-if1
+shr-if1 c = omega (arith, c .before .before .before .pre .0 .left)
+
+returns : tie.Need-returns
+returns c = has-value (c .before .before .before .before .args .literals .now) (c .before .before .before .before .args .l) (c .before .before .before .before .args .bound) (c .before .before .before .before .args .values .now) (c .before .before .before .before .pre .0) (c .before .before .before .before .pre .1) (bit-set _ _ (c .if1 .taken))
+
+right-value-requires : tie.Need-right-value-requires
+right-value-requires c κs = (c .before .before .before .before .before .pre .0 .inside, c .before .before .before .before .before .pre .0 .side, c .before .before .before .before .before .pre .1)
+
+same-length : tie.Need-same-length
+same-length c = search needs
+
+returns-2 : tie.Need-returns-2
+returns-2 c = no-right (c .before .before .before .before .before .before .before .args .literals .now) (c .before .before .before .before .before .before .before .args .l) (c .before .before .before .before .before .before .before .args .bound) (c .before .before .before .before .before .before .before .args .values .now) (c .before .before .before .before .before .before .before .pre .0) (c .before .before .before .before .before .before .before .pre .1) _ (c .before .right-value .ensures) (bit-clear _ _ (c .before .before .before .if1 .left)) (c .if2 .taken)
+
+mul-values : tie.Need-mul-values
+mul-values c = omega (arith, c .before .before .before .before .before .before .before .pre .0 .left)
+
+slice-write-values : tie.Need-slice-write-values
+slice-write-values c = omega (arith, c .before .before .before .before .before .before .before .pre .0 .left, c .before .before .before .before .before .before .before .pre .1 .wide)
+
+shl-result : tie.Need-shl-result
+shl-result c = omega (arith, c .before .before .before .before .before .before .before .pre .0 .left)
+
+same-length-2 : tie.Need-same-length-2
+same-length-2 c = search needs
+
+returns-3 : tie.Need-returns-3
+returns-3 c = rw (one-shifted (literal-column (c .before .before .before .before .before .before .before .args .literals .now) (c .before .before .before .before .before .before .before .args .l) 4) (omega (arith, c .before .before .before .before .before .before .before .pre .0 .left))) (has-right (c .before .before .before .before .before .before .before .args .literals .now) (c .before .before .before .before .before .before .before .args .l) (c .before .before .before .before .before .before .before .args .bound) (c .before .before .before .before .before .before .before .args .values .now) (c .before .before .before .before .before .before .before .pre .0) (c .before .before .before .before .before .before .before .pre .1) _ (c .before .right-value .ensures) (bit-clear _ _ (c .before .before .before .if1 .left)) (omega (arith, c .if2 .left)))
+
+pub complete-one-spec : {M : Type 1} → statement M
+complete-one-spec =
+    tie.close
+    (tie.spec
+    mul-x
+    add-x
+    mul-x-2
+    shared-slice-read-x
+    shr-if1
+    returns
+    right-value-requires
+    same-length
+    returns-2
+    mul-values
+    slice-write-values
+    shl-result
+    same-length-2
+    returns-3)

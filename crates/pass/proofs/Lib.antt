@@ -1,4 +1,0 @@
-pub mod Choices
-pub mod Seeking
-pub mod Starts
-pub mod Outcomes

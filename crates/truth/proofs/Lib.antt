@@ -1,3 +1,0 @@
-pub mod Literals
-pub mod Heads
-pub mod Besides
