@@ -7,14 +7,14 @@ use native.Mathlib.Omega.{arith}
 use lib.Dec.{leb}
 use lib.ListN.{length}
 use borrow.Author.Tests.{leb-true, lt-leb, le-leb, ne-eqb}
-use Rattle.lexis.specs.declared.Place.{Place}
-use Rattle.lexis.specs.Kind.{kindNumber, isEnd}
-use Rattle.lexis.specs.Number.{capped, decimal}
-use Rattle.lexis.specs.Places.{places-in, with-place}
-use Rattle.lexis.specs.Token.{nextToken}
-use Rattle.lexis.specs.Tokens.{part}
-use Rattle.lexis.proofs.Next.{not-empty}
-use Rattle.lexis.proofs.PlaceTables.{places-length, places-more}
+use Rattle.tokens.specs.declared.Place.{Place}
+use Rattle.tokens.specs.Kind.{kindNumber, isEnd}
+use Rattle.tokens.specs.Number.{capped, decimal}
+use Rattle.tokens.specs.Places.{places-in, with-place}
+use Rattle.tokens.specs.Token.{nextToken}
+use Rattle.tokens.specs.Tokens.{part}
+use Rattle.tokens.proofs.Next.{not-empty}
+use Rattle.tokens.proofs.PlaceTables.{places-length, places-more}
 use Rattle.meaning.specs.Rules.{Bytes}
 use Rattle.meaning.specs.Values.{number, in-range}
 use Rattle.grammar.specs.Sizes.{greatest-number}

@@ -2,7 +2,7 @@
 use mathlib.Core.Bool.{false}
 use mathlib.Core.List.{List, [], _∷_}
 use Prim.Native.Nat.{ℕ, _-_}
-use Rattle.lexis.specs.Places.{places-in}
+use Rattle.tokens.specs.Places.{places-in}
 use Rattle.meaning.specs.Rules.{Bytes, Term}
 use Rattle.meaning.specs.Values.{Value}
 use Rattle.syntax.specs.declared.token.Progress.{Progress}

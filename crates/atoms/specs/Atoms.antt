@@ -2,8 +2,8 @@
 use mathlib.Core.Bool.{false}
 use mathlib.Core.List.{List, [], _∷_}
 use Prim.Native.Nat.{ℕ, _-_, _<_}
-use Rattle.lexis.specs.declared.Place.{Place}
-use Rattle.lexis.specs.Places.{places-in}
+use Rattle.tokens.specs.declared.Place.{Place}
+use Rattle.tokens.specs.Places.{places-in}
 use Rattle.meaning.specs.Rules.{Bytes, Term, Atom}
 use Rattle.meaning.specs.Values.{Value}
 use Rattle.codes.specs.Predicates.{CodedName}

@@ -4,9 +4,9 @@ use mathlib.Core.Path.{_≡_}
 use mathlib.Core.Bool.{true, _||_}
 use mathlib.Core.List.{List}
 use lib.ListN.{length}
-use Rattle.lexis.specs.declared.Place.{Place}
-use Rattle.lexis.specs.Places.{places-in}
-use Rattle.lexis.specs.Sizes.{most-text}
+use Rattle.tokens.specs.declared.Place.{Place}
+use Rattle.tokens.specs.Places.{places-in}
+use Rattle.tokens.specs.Sizes.{most-text}
 use Rattle.meaning.specs.Rules.{Bytes}
 use Rattle.grammar.specs.Sizes.{most-variables}
 use Rattle.syntax.specs.Text.{tokenRead}

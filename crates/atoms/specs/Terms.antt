@@ -5,10 +5,10 @@ use mathlib.Core.List.{List}
 use Prim.Native.Nat.{ℕ, _-_, _≤_, _<_}
 use lib.Dec.{leb}
 use lib.ListN.{length}
-use Rattle.lexis.specs.declared.Place.{Place}
-use Rattle.lexis.specs.Number.{capped, decimal}
-use Rattle.lexis.specs.Places.{number-limit, places-in}
-use Rattle.lexis.specs.Tokens.{part}
+use Rattle.tokens.specs.declared.Place.{Place}
+use Rattle.tokens.specs.Number.{capped, decimal}
+use Rattle.tokens.specs.Places.{number-limit, places-in}
+use Rattle.tokens.specs.Tokens.{part}
 use Rattle.meaning.specs.Rules.{Bytes, Term}
 use Rattle.meaning.specs.Values.{Value}
 use Rattle.grammar.specs.Sizes.{greatest-number, most-variables}

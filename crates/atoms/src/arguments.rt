@@ -4,12 +4,12 @@ ghost use Rattle.atoms.specs.Cursors.{Ready};
 ghost use Rattle.atoms.specs.Arguments.{stoppedArguments, goneArguments, ReadsArguments};
 use crate::cursor::Cursor;
 use crate::term::term_at;
-use lexis::NOWHERE;
-use lexis::kind::CLOSE;
-use lexis::sizes::MOST_ARGUMENTS;
 use syntax::separator::separator_at;
 use syntax::token::Progress;
 use syntax::token::token_at;
+use tokens::NOWHERE;
+use tokens::kind::CLOSE;
+use tokens::sizes::MOST_ARGUMENTS;
 
 // The numbers of the first `count` terms, and how many variables have been met behind them.
 pub struct ArgumentsRead {

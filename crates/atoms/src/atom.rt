@@ -5,12 +5,6 @@ ghost use Rattle.atoms.specs.Atoms.{stoppedAtom, goneAtom, ReadyNamed, R
 use crate::arguments::arguments_at;
 use crate::cursor::Cursor;
 use codes::predicate;
-use lexis::NOWHERE;
-use lexis::Place;
-use lexis::kind::MINUS;
-use lexis::kind::NAME;
-use lexis::kind::OPEN;
-use lexis::sizes::MOST_ARGUMENTS;
 use rows::literal::AtomCodes;
 use rows::term::name_number;
 use syntax::token::Progress;
@@ -18,6 +12,12 @@ use syntax::token::token_at;
 use syntax::word::OVER;
 use syntax::word::WRONG;
 use syntax::word::word_code;
+use tokens::NOWHERE;
+use tokens::Place;
+use tokens::kind::MINUS;
+use tokens::kind::NAME;
+use tokens::kind::OPEN;
+use tokens::sizes::MOST_ARGUMENTS;
 
 // An atom's numbers, and how many variables have been met behind it.
 pub struct AtomRead {

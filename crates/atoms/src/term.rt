@@ -4,18 +4,6 @@ ghost use Rattle.atoms.specs.Cursors.{Ready};
 ghost use Rattle.atoms.specs.Terms.{stoppedTerm, goneTerm, numberTerm, Puttable, ReadsVariable, ReadsAnonymous, ReadsNegative, ReadsTerm};
 use crate::cursor::Cursor;
 use codes::FIRST_NAME;
-use lexis::NOWHERE;
-use lexis::Place;
-use lexis::kind::ANONYMOUS;
-use lexis::kind::MINUS;
-use lexis::kind::NAME;
-use lexis::kind::NUMBER;
-use lexis::kind::VARIABLE;
-use lexis::number::value;
-use lexis::parts::part;
-use lexis::places::put_place;
-use lexis::sizes::MOST_NUMBER;
-use lexis::sizes::MOST_VARIABLES;
 use rows::term::name_number;
 use rows::term::number_code;
 use syntax::token::Progress;
@@ -26,6 +14,18 @@ use syntax::word::BIG;
 use syntax::word::OVER;
 use syntax::word::WRONG;
 use syntax::word::word_code;
+use tokens::NOWHERE;
+use tokens::Place;
+use tokens::kind::ANONYMOUS;
+use tokens::kind::MINUS;
+use tokens::kind::NAME;
+use tokens::kind::NUMBER;
+use tokens::kind::VARIABLE;
+use tokens::number::value;
+use tokens::parts::part;
+use tokens::places::put_place;
+use tokens::sizes::MOST_NUMBER;
+use tokens::sizes::MOST_VARIABLES;
 
 // A term's number, and how many variables have been met behind it.
 pub struct TermRead {

@@ -29,7 +29,7 @@ use Rattle.clashes.specs.Clashes.{turned, alike, Earlier, FirstClash}
 use Rattle.clashes.specs.Clashes as clashes
 use Rattle.stages.specs.Parts.{Part}
 use Rattle.stages.specs.Stage.{stop, First, first}
-use Rattle.answered.specs.Cases.{opposite, Clash, repeats, opposes}
+use Rattle.promise.specs.Cases.{opposite, Clash, repeats, opposes}
 
 -- ---- the same fact
 

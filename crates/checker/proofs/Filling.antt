@@ -6,10 +6,10 @@ use Prim.Native.Nat.{ℕ, _≤_, _<_}
 use native.Mathlib.Omega.{arith}
 use lib.ListN.{length, length-take}
 use lib.Seq.{take-all}
-use Rattle.lexis.specs.declared.Place.{Place}
-use Rattle.lexis.specs.Tokens.{part}
-use Rattle.lexis.specs.Sizes.{most-text}
-use Rattle.lexis.specs.Places.{place-from}
+use Rattle.tokens.specs.declared.Place.{Place}
+use Rattle.tokens.specs.Tokens.{part}
+use Rattle.tokens.specs.Sizes.{most-text}
+use Rattle.tokens.specs.Places.{place-from}
 use Rattle.meaning.specs.Rules.{Bytes, Rule}
 use Rattle.meaning.specs.Values.{Value}
 use Rattle.grammar.specs.Trees.{Program}
@@ -27,7 +27,7 @@ use Rattle.rows.specs.Growth.{Room, Grows}
 use Rattle.program.specs.Rules.{FillsRules}
 use Rattle.clashes.specs.declared.Clashing.{Clashing}
 use Rattle.clashes.specs.Clashes.{FirstClash}
-use Rattle.sentences.specs.Sentences.{sentence}
+use Rattle.rule_places.specs.Sentences.{sentence}
 use Rattle.output.specs.Output.{on-line}
 use Rattle.matching.specs.Store.{literals-in, rules-in}
 use Rattle.filling.specs.Filling.{store-size, facts-size, RulesFillable, FactsFillable, FactsFilled}

@@ -10,18 +10,18 @@ use lib.Seq.{ext-getD, getD-drop}
 use Rattle.meaning.specs.Rules.{Bytes, Fact, Rule}
 use Rattle.meaning.specs.Values.{Value, values, in-range}
 use Rattle.meaning.specs.Outcomes as meant
-use Rattle.derived.specs.Members.{places, holds}
+use Rattle.derived_set.specs.Members.{places, holds}
 use Rattle.tables.specs.Rows.{from}
 use Rattle.tables.proofs.Strides.{from-length}
-use Rattle.sentences.specs.Sentences.{sentence}
+use Rattle.rule_places.specs.Sentences.{sentence}
 use Rattle.judge.specs.declared.Judgement.{Judgement}
 use Rattle.judge.specs.declared.Kind.{Kind}
 use Rattle.judge.specs.declared.Kind.the-variants.{OutOfRange, Unsatisfied, Accepted, Smaller}
 use Rattle.judge.specs.Judged.{said, Lent, NoneBehind}
-use Rattle.answered.specs.Answer as paper
-use Rattle.answered.specs.Judged.{Settled, settles}
-use Rattle.answered.specs.Answered.{rule-part}
-use Rattle.answered.proofs.Judged.{settled-is}
+use Rattle.promise.specs.Answer as paper
+use Rattle.promise.specs.Judged.{Settled, settles}
+use Rattle.promise.specs.Answered.{rule-part}
+use Rattle.promise.proofs.Judged.{settled-is}
 use Rattle.fields.specs.declared.answer.Text.the-variants.{Program}
 use Rattle.fields.specs.declared.answer.Answer.{Answer}
 use Rattle.fields.specs.Answers.{Says}

@@ -20,8 +20,8 @@ use Rattle.ranks.specs.Ranks.{Ranked}
 use Rattle.filling.specs.Orders.{PlainRule, RulesInside}
 use Rattle.judge.specs.declared.Judgement.{Judgement}
 use Rattle.judge.specs.Judged.{said, Judged}
-use Rattle.answered.specs.Answered.{rule-part}
-use Rattle.answered.specs.Judged.{Settled}
+use Rattle.promise.specs.Answered.{rule-part}
+use Rattle.promise.specs.Judged.{Settled}
 use Rattle.fields.specs.Checked.{Answers}
 use Rattle.fields.specs.declared.answer.Answer.{Answer}
 use Rattle.verdict.specs.Told.{Small, Tells}

@@ -5,8 +5,8 @@ use mathlib.Core.List.{List}
 use Prim.Native.Nat.{ℕ}
 use borrow.Author.Tests.{eqb-true, eq-eqb}
 use lib.Dec.{eqb}
-use Rattle.lexis.specs.declared.Place.{Place}
-use Rattle.lexis.specs.Places.{nowhere}
+use Rattle.tokens.specs.declared.Place.{Place}
+use Rattle.tokens.specs.Places.{nowhere}
 use Rattle.meaning.specs.Rules.{Bytes}
 use Rattle.meaning.proofs.Booleans.{not-true, not-false}
 use Rattle.grammar.specs.Trees.{Program}
@@ -21,8 +21,8 @@ use Rattle.output.specs.declared.OutputRead.{OutputRead}
 use Rattle.output.specs.Output.{Report, facts, claim-none, claim-unknown, OutputStage}
 use Rattle.output.specs.Answers.{ReadsOutput}
 use Rattle.output.proofs.Uses.{Says as Reports, output-refused, output-says}
-use Rattle.answered.specs.Answer as paper
-use Rattle.answered.specs.Answered.{Reported, code-of, Check}
+use Rattle.promise.specs.Answer as paper
+use Rattle.promise.specs.Answered.{Reported, code-of, Check}
 use Rattle.fields.specs.declared.answer.Text.{Text}
 use Rattle.fields.specs.declared.answer.Text.the-variants.{Program as InProgram, Output as InOutput}
 use Rattle.fields.specs.declared.answer.Kind.the-variants.{ClaimedNone, ClaimedUnknown}

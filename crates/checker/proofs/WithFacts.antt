@@ -5,20 +5,20 @@ use mathlib.Core.List.{List}
 use Prim.Native.Nat.{ℕ, _<_, _≤_}
 use native.Mathlib.Omega.{arith}
 use lib.ListN.{length}
-use Rattle.lexis.specs.declared.Place.{Place}
-use Rattle.lexis.specs.Tokens.{part}
-use Rattle.lexis.specs.Places.{nowhere}
+use Rattle.tokens.specs.declared.Place.{Place}
+use Rattle.tokens.specs.Tokens.{part}
+use Rattle.tokens.specs.Places.{nowhere}
 use Rattle.meaning.specs.Rules.{Bytes, Fact, Rule}
 use Rattle.meaning.specs.Values.{Value}
 use Rattle.names.specs.Table.{names-of}
 use Rattle.matching.specs.Store.{facts-in}
 use Rattle.clashes.specs.declared.Clashing.{Clashing}
 use Rattle.stages.specs.Stage.{stops, goes, given, passed, without}
-use Rattle.sentences.specs.Sentences.{sentence}
+use Rattle.rule_places.specs.Sentences.{sentence}
 use Rattle.output.specs.Output.{on-line}
-use Rattle.answered.specs.Cases.{Clash}
-use Rattle.answered.specs.Answered.{rule-part, fact-part}
-use Rattle.answered.specs.Judged.{Settled}
+use Rattle.promise.specs.Cases.{Clash}
+use Rattle.promise.specs.Answered.{rule-part, fact-part}
+use Rattle.promise.specs.Judged.{Settled}
 use Rattle.fields.specs.declared.answer.Text.the-variants.{Output}
 use Rattle.fields.specs.declared.answer.Answer.{Answer}
 use Rattle.fields.specs.Values.{refused}

@@ -4,9 +4,9 @@ use mathlib.Core.Bool.{true, false}
 use mathlib.Core.List.{List}
 use Prim.Native.Nat.{ℕ, _+_, _≤_, _<_, min}
 use lib.ListN.{length}
-use Rattle.lexis.specs.declared.Place.{Place}
-use Rattle.lexis.specs.Tokens.{part}
-use Rattle.lexis.specs.Sizes.{most-text}
+use Rattle.tokens.specs.declared.Place.{Place}
+use Rattle.tokens.specs.Tokens.{part}
+use Rattle.tokens.specs.Sizes.{most-text}
 use Rattle.meaning.specs.Sets.{every}
 use Rattle.meaning.specs.Rules.{Bytes, Fact, Rule}
 use Rattle.meaning.specs.Values.{Value}
@@ -27,12 +27,12 @@ use Rattle.grammar.specs.Trees.{Program}
 use Rattle.grammar.specs.Abstraction.{rules-for}
 use Rattle.stages.specs.Parts.{Text, start-of}
 use Rattle.stages.specs.Stage.{Stage, _⟫_, Refuse, First}
-use Rattle.sentences.specs.Sentences.{sentence}
+use Rattle.rule_places.specs.Sentences.{sentence}
 use Rattle.output.specs.Output.{on-line, OutputStage}
-use Rattle.answered.specs.Answer.{Result}
-use Rattle.answered.specs.Cases.{Clash}
-use Rattle.answered.specs.Answered.{rule-part, fact-part, Reported, code-of}
-use Rattle.answered.specs.Judged.{Settled}
+use Rattle.promise.specs.Answer.{Result}
+use Rattle.promise.specs.Cases.{Clash}
+use Rattle.promise.specs.Answered.{rule-part, fact-part, Reported, code-of}
+use Rattle.promise.specs.Judged.{Settled}
 use Rattle.fields.specs.declared.answer.Answer.{Answer}
 use Rattle.fields.specs.Checked.{Answers}
 use Rattle.checker.specs.declared.settled.Counts.{Counts}

@@ -12,8 +12,8 @@ use fields::answer::Answer;
 use fields::answer::Text;
 use fields::answer::refused;
 use fields::clash::fact_part;
-use lexis::NOWHERE;
-use lexis::Place;
+use tokens::NOWHERE;
+use tokens::Place;
 
 // The refusal of places that are fewer than the facts.
 const SHORT: u8 = 9;

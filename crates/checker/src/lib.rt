@@ -1,6 +1,6 @@
 // The check: a program and a solver's output against the published meaning of an answer set, refusals in their order.
 ghost use Rattle.names.specs.Numbering.{Empty};
-ghost use Rattle.answered.specs.Answered.{Check};
+ghost use Rattle.promise.specs.Answered.{Check};
 ghost use Rattle.fields.specs.Checked.{Answers};
 ghost use Rattle.checker.specs.Standing.{names-of-both};
 use fields::answer::Answer;
@@ -8,10 +8,10 @@ use fields::answer::Text;
 use fields::answer::refused;
 use filling::empty_store;
 use filling::fill_rules;
-use lexis::place_from;
-use lexis::sizes::MOST_TEXT;
 use names::SMALL_TEXT;
 use reported::reported;
+use tokens::place_from;
+use tokens::sizes::MOST_TEXT;
 
 mod facts;
 mod reported;
@@ -30,7 +30,7 @@ fn with_names<'a>(
 {
     let mut store = empty_store();
     // The size of the output is not known yet, and no name is looked for behind its size.
-    let within = lexis::parts::part(output, place_from(0, MOST_TEXT));
+    let within = tokens::parts::part(output, place_from(0, MOST_TEXT));
     let read = fill_rules(program, within, names, &mut store);
     if read.code != 0 {
         let place = read.place;

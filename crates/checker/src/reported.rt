@@ -9,12 +9,12 @@ use fields::answer::Text;
 use fields::answer::claimed;
 use fields::answer::refused;
 use filling::fill_facts;
-use lexis::NOWHERE;
-use lexis::sizes::MOST_FACTS;
 use output::read_output;
 use report::word::Word;
 use report::word::agrees;
 use tables::FACT;
+use tokens::NOWHERE;
+use tokens::sizes::MOST_FACTS;
 
 // The refusal where the solver's code and its report disagree.
 const DISAGREE: u8 = 10;

@@ -7,7 +7,7 @@ use Prim.Native.Nat.{ℕ, _-_, _≤_, _<_}
 use native.Mathlib.Omega.{arith}
 use lib.Dec.{leb}
 use lib.ListN.{length}
-use Rattle.lexis.specs.declared.Place.{Place}
+use Rattle.tokens.specs.declared.Place.{Place}
 use Rattle.meaning.specs.Domain.{Operation}
 use Rattle.meaning.specs.Rules.{Bytes, Term, Literal, builtin, Side}
 use Rattle.meaning.specs.Values.{Value}

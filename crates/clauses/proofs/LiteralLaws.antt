@@ -6,9 +6,9 @@ use Prim.Native.Nat.{ℕ, _+_, _-_, _≤_, _<_}
 use native.Mathlib.Omega.{arith}
 use lib.Dec.{leb}
 use lib.ListN.{length}
-use Rattle.lexis.specs.declared.Place.{Place}
-use Rattle.lexis.specs.Places.{places-in}
-use Rattle.lexis.specs.Tokens.{part}
+use Rattle.tokens.specs.declared.Place.{Place}
+use Rattle.tokens.specs.Places.{places-in}
+use Rattle.tokens.specs.Tokens.{part}
 use Rattle.meaning.specs.Rules.{Bytes, Term, Literal}
 use Rattle.meaning.specs.Values.{Value}
 use Rattle.codes.specs.Codes.{first-name}

@@ -3,7 +3,7 @@ use mathlib.Core.Path.{_≡_}
 use mathlib.Core.Bool.{false}
 use mathlib.Core.List.{List, _∷_}
 use Prim.Native.Nat.{ℕ}
-use Rattle.lexis.specs.Places.{places-in}
+use Rattle.tokens.specs.Places.{places-in}
 use Rattle.meaning.specs.Rules.{Bytes}
 use Rattle.tables.specs.Rows.{no-operation}
 use Rattle.syntax.specs.declared.token.TokenRead.{TokenRead}

@@ -7,14 +7,14 @@ ghost use Rattle.tables.specs.Layout.{literal-stride};
 ghost use Rattle.clauses.specs.Bodies.{stoppedBody, goneBody, ReadyBody, FillsBody};
 use crate::literal::literal_at;
 use atoms::cursor::Cursor;
-use lexis::NOWHERE;
-use lexis::Place;
-use lexis::kind::DOT;
-use lexis::sizes::MOST_LITERALS;
 use syntax::separator::separator_at;
 use syntax::token::Progress;
 use tables::LITERAL;
 use tables::row::put_row;
+use tokens::NOWHERE;
+use tokens::Place;
+use tokens::kind::DOT;
+use tokens::sizes::MOST_LITERALS;
 
 // How many literals there are, and how many variables have been met behind them.
 pub struct BodyRead {

@@ -4,10 +4,6 @@ ghost use Rattle.clauses.specs.Builtins.{stoppedLiteral, goneLiteral, Re
 use atoms::cursor::Cursor;
 use atoms::term::TermRead;
 use atoms::term::term_at;
-use lexis::NOWHERE;
-use lexis::Place;
-use lexis::kind::MINUS;
-use lexis::kind::TIMES;
 use rows::literal::built_in_row;
 use rows::literal::comparison_code;
 use rows::literal::operation_code;
@@ -17,6 +13,10 @@ use syntax::token::token_at;
 use syntax::word::WRONG;
 use tables::LITERAL;
 use tables::NO_OPERATION;
+use tokens::NOWHERE;
+use tokens::Place;
+use tokens::kind::MINUS;
+use tokens::kind::TIMES;
 
 // A literal's row, and how many variables have been met behind it.
 pub struct LiteralRead {

@@ -9,11 +9,6 @@ use crate::body::put_literal;
 use crate::body::stopped as stopped_body;
 use atoms::atom::atom_at;
 use atoms::cursor::Cursor;
-use lexis::NOWHERE;
-use lexis::Place;
-use lexis::kind::DOT;
-use lexis::kind::END;
-use lexis::kind::IF;
 use rows::literal::atom_row;
 use syntax::token::Progress;
 use syntax::token::token_at;
@@ -22,6 +17,11 @@ use syntax::word::WRONG;
 use tables::HEAD;
 use tables::NO_LITERAL;
 use tables::ROWS;
+use tokens::NOWHERE;
+use tokens::Place;
+use tokens::kind::DOT;
+use tokens::kind::END;
+use tokens::kind::IF;
 
 // A rule: its head's row or that there is none, how many literals its body has, and how many variables it has. Where `ended`, there is none,
 // because the text ends.

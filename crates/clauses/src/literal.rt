@@ -15,10 +15,6 @@ use atoms::cursor::Cursor;
 use atoms::term::negative_number;
 use atoms::term::term_at;
 use codes::FIRST_NAME;
-use lexis::kind::MINUS;
-use lexis::kind::NAME;
-use lexis::kind::NOT;
-use lexis::kind::NUMBER;
 use rows::literal::atom_row;
 use rows::term::name_number;
 use syntax::sign::is_comparison;
@@ -29,6 +25,10 @@ use syntax::word::WRONG;
 use syntax::word::word_code;
 use tables::NEGATED;
 use tables::POSITIVE;
+use tokens::kind::MINUS;
+use tokens::kind::NAME;
+use tokens::kind::NOT;
+use tokens::kind::NUMBER;
 
 // The literal of an atom that has been read, or was refused.
 fn of_atom(sort: u64, read: AtomRead) -> LiteralRead

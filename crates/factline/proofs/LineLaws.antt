@@ -11,9 +11,9 @@ use lib.Dec.{leb, ltb, eqb}
 use lib.ListN.{length, getD, take, set, length-set, length-take, length-drop}
 use lib.Seq.{take-suc-set, take-set-le, drop-set-lt, getD-set-same, getD-set-other}
 use borrow.Author.Tests.{eqb-true, eqb-false, ltb-true, ltb-false, leb-false}
-use Rattle.lexis.specs.declared.Place.{Place}
-use Rattle.lexis.specs.Places.{place-from, nowhere}
-use Rattle.lexis.specs.Tokens.{part}
+use Rattle.tokens.specs.declared.Place.{Place}
+use Rattle.tokens.specs.Places.{place-from, nowhere}
+use Rattle.tokens.specs.Tokens.{part}
 use Rattle.reading.specs.Reading.{Placed, Answer}
 use Rattle.reading.proofs.Lists.{none-some, some-inj}
 use Rattle.meaning.specs.Sets.{In}
@@ -30,8 +30,8 @@ use Rattle.syntax.specs.Rules.{behind-rules, RulePlace}
 use Rattle.syntax.specs.Programs.{ReadAs}
 use Rattle.syntax.proofs.Lists.{too-many-next}
 use Rattle.syntax.proofs.Programs.{reading-of}
-use Rattle.sentences.specs.Sentences.{dot-end, between, sentence}
-use Rattle.sentences.proofs.Dots.{Reached, reached-start, reached-on, reached-sentence, start-before, first-to-dot}
+use Rattle.rule_places.specs.Sentences.{dot-end, between, sentence}
+use Rattle.rule_places.proofs.Dots.{Reached, reached-start, reached-on, reached-sentence, start-before, first-to-dot}
 use Rattle.codes.specs.Codes.{no-value, Coded}
 use Rattle.codes.specs.Predicates.{CodedName}
 use Rattle.codes.specs.Related.{Pairwise, end, pair, RelatedAtom}

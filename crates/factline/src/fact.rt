@@ -4,16 +4,16 @@ ghost use Rattle.atoms.specs.Cursors.{Ready};
 ghost use Rattle.factline.specs.Facts.{at-fact, noFact, goneFact, ReadsFact};
 use atoms::atom::atom_at;
 use atoms::cursor::Cursor;
-use lexis::NOWHERE;
-use lexis::Place;
-use lexis::kind::DOT;
-use lexis::kind::END;
-use lexis::kind::IF;
-use lexis::sizes::MOST_ARGUMENTS;
 use rows::literal::AtomCodes;
 use syntax::token::Progress;
 use syntax::token::token_at;
 use syntax::word::WRONG;
+use tokens::NOWHERE;
+use tokens::Place;
+use tokens::kind::DOT;
+use tokens::kind::END;
+use tokens::kind::IF;
+use tokens::sizes::MOST_ARGUMENTS;
 
 // A fact's numbers, and where its first token starts. Where `ended`, there is none, because the line ends.
 pub struct FactRead {

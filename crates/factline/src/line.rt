@@ -4,15 +4,15 @@ ghost use mathlib.Core.List.{_∷_};
 ghost use Rattle.factline.specs.Lines.{Fillable, FillsLine, Puttable, Put};
 use crate::fact::FactRead;
 use crate::fact::fact_at;
-use lexis::NOWHERE;
-use lexis::Place;
-use lexis::parts::part;
-use lexis::places::PLACE;
-use lexis::sizes::MOST_FACTS;
-use lexis::sizes::MOST_VARIABLES;
 use rows::literal::AtomCodes;
 use tables::FACT;
 use tables::row::put_row;
+use tokens::NOWHERE;
+use tokens::Place;
+use tokens::parts::part;
+use tokens::places::PLACE;
+use tokens::sizes::MOST_FACTS;
+use tokens::sizes::MOST_VARIABLES;
 
 // How many facts there are; or the refusal and its place on the line.
 pub struct FactsRead {

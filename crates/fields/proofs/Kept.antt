@@ -8,10 +8,10 @@ use native.Mathlib.Omega.{arith}
 use native.Mathlib.Nat.{add-zero}
 use lib.ListN.{length, getD}
 use borrow.Author.Tests.{le-ltb}
-use Rattle.derived.specs.Members.{places, holds}
-use Rattle.derived.specs.declared.Derived.{Derived}
+use Rattle.derived_set.specs.Members.{places, holds}
+use Rattle.derived_set.specs.declared.Derived.{Derived}
 use Rattle.tables.specs.Rows.{from}
-use Rattle.answered.specs.Answer.{positions}
+use Rattle.promise.specs.Answer.{positions}
 
 -- ---- a test, as a list
 

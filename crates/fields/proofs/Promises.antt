@@ -6,7 +6,7 @@ use mathlib.Core.Logic.{_↔_}
 use mathlib.Core.List.{List, _++_}
 use Prim.Native.Nat.{ℕ, _≤_}
 use lib.ListN.{length, getD, take, drop}
-use Rattle.lexis.specs.declared.Place.{Place}
+use Rattle.tokens.specs.declared.Place.{Place}
 use Rattle.meaning.specs.Rules.{Bytes}
 use Rattle.meaning.specs.Values.{values}
 use Rattle.meaning.specs.AnswerSets.{Broken, Accepted}
@@ -15,15 +15,15 @@ use Rattle.grammar.specs.Trees.{Program}
 use Rattle.grammar.specs.Abstraction.{rules-for, facts-for}
 use Rattle.stages.specs.Parts.{Part}
 use Rattle.output.specs.Output.{claim-none, claim-unknown}
-use Rattle.derived.specs.Members.{holds}
-use Rattle.answered.specs.Answer.{Fields, fields}
-use Rattle.answered.specs.Answer as paper
-use Rattle.answered.specs.Answered.{Check}
-use Rattle.answered.specs.Refusals.{Read, Case}
-use Rattle.answered.specs.Ready.{Ready}
-use Rattle.answered.proofs.Numbers as numbers
-use Rattle.answered.proofs.Claims as claims
-use Rattle.answered.proofs.Demands as demands
+use Rattle.derived_set.specs.Members.{holds}
+use Rattle.promise.specs.Answer.{Fields, fields}
+use Rattle.promise.specs.Answer as paper
+use Rattle.promise.specs.Answered.{Check}
+use Rattle.promise.specs.Refusals.{Read, Case}
+use Rattle.promise.specs.Ready.{Ready}
+use Rattle.promise.proofs.Numbers as numbers
+use Rattle.promise.proofs.Claims as claims
+use Rattle.promise.proofs.Demands as demands
 use Rattle.fields.specs.declared.answer.Kind.{Kind}
 use Rattle.fields.specs.declared.answer.Kind.the-variants as kinds
 use Rattle.fields.specs.declared.answer.Answer.{Answer}

@@ -1,7 +1,7 @@
 -- The kind of an answer by value is the kind of the answer that it says.
 use mathlib.Core.Path.{_≡_, refl, sym as inv, ap, _∙_}
-use Rattle.answered.specs.Answer.{Fields}
-use Rattle.answered.specs.Answer as paper
+use Rattle.promise.specs.Answer.{Fields}
+use Rattle.promise.specs.Answer as paper
 use Rattle.fields.specs.declared.answer.Kind.{Kind}
 use Rattle.fields.specs.declared.answer.Kind.the-variants.{Refused, Accepted, Unsatisfied, Smaller, ClaimedNone, ClaimedUnknown}
 use Rattle.fields.specs.declared.answer.Answer.{Answer}

@@ -5,15 +5,15 @@ use mathlib.Core.List.{List, []}
 use Prim.Native.Nat.{ℕ, zero, suc, _^_, _≤_, _<_}
 use native.Mathlib.Omega.{arith}
 use lib.ListN.{length, getD, take, replicate}
-use Rattle.lexis.specs.declared.Place.{Place}
+use Rattle.tokens.specs.declared.Place.{Place}
 use Rattle.stages.specs.Parts.{in-text}
 use Rattle.grammar.specs.Sizes.{most-literals}
-use Rattle.derived.specs.Members.{places, holds}
-use Rattle.derived.specs.declared.Derived.{Derived}
-use Rattle.derived.proofs.Words.{zeros-hold-none}
+use Rattle.derived_set.specs.Members.{places, holds}
+use Rattle.derived_set.specs.declared.Derived.{Derived}
+use Rattle.derived_set.proofs.Words.{zeros-hold-none}
 use Rattle.tables.specs.Rows.{from}
-use Rattle.answered.specs.Answer.{positions}
-use Rattle.answered.specs.Answer as paper
+use Rattle.promise.specs.Answer.{positions}
+use Rattle.promise.specs.Answer as paper
 use Rattle.fields.specs.declared.answer.Text.{Text}
 use Rattle.fields.specs.declared.answer.Kind.the-variants.{ClaimedNone, ClaimedUnknown}
 use Rattle.fields.specs.declared.answer.Answer.{Answer}

@@ -3,9 +3,9 @@ use mathlib.Core.Path.{_≡_, sym as inv, _∙_}
 use mathlib.Core.List.{List}
 use Prim.Native.Nat.{ℕ}
 use Rattle.meaning.specs.Rules.{Bytes}
-use Rattle.answered.specs.Answer as paper
-use Rattle.answered.specs.Answered.{Check}
-use Rattle.answered.proofs.Unique.{answered-unique}
+use Rattle.promise.specs.Answer as paper
+use Rattle.promise.specs.Answered.{Check}
+use Rattle.promise.proofs.Unique.{answered-unique}
 use Rattle.fields.specs.declared.answer.Answer.{Answer}
 use Rattle.fields.specs.Answers.{Says}
 use Rattle.fields.specs.Checked.{Answers}

@@ -8,9 +8,9 @@ use lib.ListN.{length, getD, take, length-take}
 use lib.Seq.{getD-take, ext-getD}
 use Rattle.grammar.specs.Sizes.{most-literals}
 use Rattle.stages.specs.Parts.{Part}
-use Rattle.derived.specs.declared.Derived.{Derived}
-use Rattle.derived.proofs.Words.{members-decide}
-use Rattle.answered.specs.Answer.{Fields}
+use Rattle.derived_set.specs.declared.Derived.{Derived}
+use Rattle.derived_set.proofs.Words.{members-decide}
+use Rattle.promise.specs.Answer.{Fields}
 use Rattle.fields.specs.declared.answer.Text.{Text}
 use Rattle.fields.specs.declared.answer.Text.the-variants.{Program, Output}
 use Rattle.fields.specs.declared.answer.Part.{Part as PartValue}

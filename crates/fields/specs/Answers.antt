@@ -3,9 +3,9 @@ use mathlib.Core.Path.{_≡_}
 use Prim.Native.Nat.{ℕ, _^_, _≤_, _<_}
 use lib.ListN.{length, getD, take}
 use Rattle.grammar.specs.Sizes.{most-literals}
-use Rattle.derived.specs.Members.{places, holds}
+use Rattle.derived_set.specs.Members.{places, holds}
 use Rattle.tables.specs.Rows.{from}
-use Rattle.answered.specs.Answer.{Answer, refused, accepted, unsatisfied, smaller, claimed-none, claimed-unknown, positions, Fields, fields}
+use Rattle.promise.specs.Answer.{Answer, refused, accepted, unsatisfied, smaller, claimed-none, claimed-unknown, positions, Fields, fields}
 use Rattle.fields.specs.declared.answer.Kind.the-variants.{Refused, Accepted, Unsatisfied, Smaller, ClaimedNone, ClaimedUnknown}
 use Rattle.fields.specs.declared.answer.Kind.{Kind}
 use Rattle.fields.specs.declared.answer.Answer.{Answer as AnswerValue}

@@ -2,8 +2,8 @@
 use mathlib.Core.List.{List}
 use Prim.Native.Nat.{ℕ}
 use Rattle.stages.specs.Stage.{Stage}
-use Rattle.answered.specs.Answer as paper
-use Rattle.answered.specs.Answered.{Gives}
+use Rattle.promise.specs.Answer as paper
+use Rattle.promise.specs.Answered.{Gives}
 use Rattle.fields.specs.declared.answer.Answer.{Answer}
 use Rattle.fields.specs.Answers.{Says}
 

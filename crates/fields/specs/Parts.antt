@@ -3,9 +3,9 @@ use mathlib.Core.Path.{_≡_}
 use mathlib.Core.List.{List}
 use Prim.Native.Nat.{ℕ, _+_, min}
 use lib.ListN.{length, getD}
-use Rattle.lexis.specs.declared.Place.{Place}
-use Rattle.lexis.specs.Places.{place-from}
-use Rattle.lexis.specs.Tokens.{part}
+use Rattle.tokens.specs.declared.Place.{Place}
+use Rattle.tokens.specs.Places.{place-from}
+use Rattle.tokens.specs.Tokens.{part}
 use Rattle.meaning.specs.Rules.{Bytes}
 use Rattle.stages.specs.Parts.{Text, program, output, Part, in-text}
 use Rattle.fields.specs.declared.answer.Text.{Text as TextValue}

@@ -2,10 +2,10 @@
 use mathlib.Core.List.{List}
 use Prim.Native.Nat.{ℕ}
 use lib.ListN.{replicate}
-use Rattle.lexis.specs.declared.Place.{Place}
-use Rattle.lexis.specs.Places.{nowhere}
+use Rattle.tokens.specs.declared.Place.{Place}
+use Rattle.tokens.specs.Places.{nowhere}
 use Rattle.grammar.specs.Sizes.{most-literals}
-use Rattle.derived.specs.declared.Derived.{Derived}
+use Rattle.derived_set.specs.declared.Derived.{Derived}
 use Rattle.fields.specs.declared.answer.Text.{Text}
 use Rattle.fields.specs.declared.answer.Text.the-variants.{Program}
 use Rattle.fields.specs.declared.answer.Part.{Part}

@@ -1,10 +1,10 @@
 // What the check answers, by value: every field that its kind does not name is zero, and its part is then empty, at the program's start.
 ghost use mathlib.Core.Path.{_≡_};
 ghost use Rattle.fields.specs.Values.{refused, accepted, unsatisfied, smaller, claimed};
-use derived::Derived;
-use lexis::NOWHERE;
-use lexis::Place;
-use lexis::sizes::MOST_LITERALS;
+use derived_set::Derived;
+use tokens::NOWHERE;
+use tokens::Place;
+use tokens::sizes::MOST_LITERALS;
 
 // The two lent texts.
 pub enum Text {

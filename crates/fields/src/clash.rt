@@ -3,9 +3,9 @@ ghost use mathlib.Core.Path.{_≡_};
 ghost use Prim.Native.Nat.{_<_};
 ghost use lib.ListN.{length};
 ghost use Rattle.fields.specs.Parts.{fact-place};
-use lexis::Place;
-use lexis::place_from;
-use lexis::places::number_at;
+use tokens::Place;
+use tokens::place_from;
+use tokens::places::number_at;
 
 // Where fact k of the candidate stands in the output, by the tables of all facts' starts and lengths.
 pub fn fact_part(starts: &[u32], lengths: &[u32], k: usize) -> Place

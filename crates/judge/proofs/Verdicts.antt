@@ -26,9 +26,9 @@ use Rattle.codes.specs.Domains.{codes, code-in-range}
 use Rattle.tables.specs.Layout.{positives-column}
 use Rattle.tables.specs.Rows.{from, fact-at, facts-of, rule-column}
 use Rattle.tables.proofs.Strides.{from-length, from-map, from-same, every-from}
-use Rattle.derived.specs.declared.Derived.{Derived}
-use Rattle.derived.specs.Members.{places, holds, one-if, count, size}
-use Rattle.derived.proofs.Sizes.{count-most, count-all}
+use Rattle.derived_set.specs.declared.Derived.{Derived}
+use Rattle.derived_set.specs.Members.{places, holds, one-if, count, size}
+use Rattle.derived_set.proofs.Sizes.{count-most, count-all}
 use Rattle.reach.proofs.Graphs.{below-fact}
 use Rattle.matching.specs.Store.{facts-in, literals-in, rules-in}
 use Rattle.matchings.specs.Tables.{Comparing}

@@ -12,8 +12,8 @@ use Rattle.meaning.specs.Outcomes.{Outcome, out-of-range, verdict}
 use Rattle.meaning.specs.Quick.{broken, overflow, outcome}
 use Rattle.codes.specs.Domains.{codes, code-in-range}
 use Rattle.tables.specs.Rows.{from}
-use Rattle.derived.specs.declared.Derived.{Derived}
-use Rattle.derived.specs.Members.{holds}
+use Rattle.derived_set.specs.declared.Derived.{Derived}
+use Rattle.derived_set.specs.Members.{holds}
 use Rattle.matchings.specs.Tables.{Comparing}
 use Rattle.search.specs.declared.Scan.{Scan}
 use Rattle.derivation.specs.Rounds.{rules-for, all-facts}

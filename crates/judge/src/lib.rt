@@ -1,5 +1,5 @@
 // The judgement over the store: refusal 8, or the verdict.
-use derived::Derived;
+use derived_set::Derived;
 use matching::FACTS;
 use matching::LITERALS;
 use matchings::positives::positives;
@@ -112,7 +112,7 @@ pub fn judge(
     requires { ⌜ Tables (now store) count total × (count ≤ length (now rounds)) ⌝ }
     ensures { λ j. ⌜ Judges (now (ranks .entry)) (now (store .entry)) count total (now (rounds .entry)) (now (rounds .exit)) j ⌝ }
 {
-    let most = sizes::largest(&store[FACTS..LITERALS], count);
+    let most = magnitudes::largest(&store[FACTS..LITERALS], count);
     let mut positions = [0u64; 16];
     let over = first_stop(
         store,

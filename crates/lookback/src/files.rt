@@ -1,5 +1,5 @@
 // The program's arguments, and the files that they name.
-use lexis::parts::same_bytes;
+use tokens::parts::same_bytes;
 
 // Room for one byte more than a text may have, so that a longer file is too long here as well.
 const ROOM: usize = 65537;
@@ -68,5 +68,5 @@ pub fn number_argument(i: usize) -> u64 {
     if !is_digits(&text[..n]) {
         return NO_NUMBER;
     }
-    lexis::number::value(&text[..n])
+    tokens::number::value(&text[..n])
 }

@@ -1,6 +1,6 @@
 // The program that a person runs: `lookback check PROGRAM OUTPUT CODE` prints the answer of the check, and `lookback plain PROGRAM`
 // the plain form of a program; `-` as OUTPUT is standard input. What goes wrong with an argument or a file is said on standard error, and then nothing is printed.
-use lexis::parts::same_bytes;
+use tokens::parts::same_bytes;
 
 mod files;
 mod print;

@@ -1,11 +1,11 @@
 // What is printed, line by line.
-use derived::Derived;
-use derived::PLACES;
+use derived_set::Derived;
+use derived_set::PLACES;
 use fields::answer::Answer;
 use fields::answer::Kind;
-use lexis::sizes::MOST_LITERALS;
 use libc::STDOUT_FILENO;
 use plain::Written;
+use tokens::sizes::MOST_LITERALS;
 
 fn put(bytes: &[u8]) {
     io::write_all(STDOUT_FILENO, bytes);

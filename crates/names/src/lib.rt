@@ -2,15 +2,15 @@
 // The bytes stay where they are, in the program or in the solver's output.
 ghost use mathlib.Core.Path.{_≡_};
 ghost use lib.ListN.{length};
-ghost use Rattle.lexis.specs.Places.{place-from};
+ghost use Rattle.tokens.specs.Places.{place-from};
 ghost use Rattle.names.specs.Texts.{bytes-at};
 ghost use Rattle.names.specs.Table.{most-names, few-names, Table, names-of, bytes-of, slot-of};
 ghost use Rattle.names.specs.Numbering.{Empty, Finds, Interns};
-use lexis::NOWHERE;
-use lexis::parts::same_bytes;
-use lexis::place_from;
-use lexis::sizes::MOST_TEXT;
 use text::bytes_at;
+use tokens::NOWHERE;
+use tokens::parts::same_bytes;
+use tokens::place_from;
+use tokens::sizes::MOST_TEXT;
 
 pub mod bytewise;
 mod table;

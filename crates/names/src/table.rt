@@ -4,11 +4,11 @@ ghost use Prim.Native.Nat.{_≤_, _<_};
 ghost use lib.ListN.{length};
 ghost use Rattle.names.specs.Table.{slots, first-row, capacity, slot-of, count, head, link, place-of, with-row, Addable};
 use crate::MOST_NAMES;
-use lexis::Place;
-use lexis::parts::least;
-use lexis::place_from;
-use lexis::places::number_at;
-use lexis::places::put_number;
+use tokens::Place;
+use tokens::parts::least;
+use tokens::place_from;
+use tokens::places::number_at;
+use tokens::places::put_number;
 
 const COUNT: usize = 0;
 

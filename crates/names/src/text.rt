@@ -1,9 +1,9 @@
 // The bytes of a place in the two lent texts, where the output counts on behind the program.
 ghost use mathlib.Core.Path.{_≡_};
 ghost use Rattle.names.specs.Texts.{bytes-at};
-use lexis::Place;
-use lexis::parts::part;
-use lexis::place_from;
+use tokens::Place;
+use tokens::parts::part;
+use tokens::place_from;
 
 // The bytes of a place, a part of whichever text it starts in; of a place that reaches past that text, those that are there.
 pub fn bytes_at<'a>(program: &'a [u8], output: &'a [u8], place: Place) -> &'a [u8]

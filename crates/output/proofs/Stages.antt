@@ -7,15 +7,15 @@ use native.Mathlib.Omega.{arith}
 use lib.Dec.{eqb}
 use lib.ListN.{length, length-take, length-drop}
 use borrow.Author.Tests.{eq-eqb, ne-eqb}
-use Rattle.lexis.specs.declared.Place.{Place}
-use Rattle.lexis.specs.Tokens.{part}
+use Rattle.tokens.specs.declared.Place.{Place}
+use Rattle.tokens.specs.Tokens.{part}
 use Rattle.reading.specs.Reading.{refused as refused-tree}
 use Rattle.meaning.specs.Rules.{Bytes}
 use Rattle.grammar.specs.Trees.{Program}
-use Rattle.lexis.specs.Places.{nowhere}
-use Rattle.lexis.specs.Sizes.{most-text}
+use Rattle.tokens.specs.Places.{nowhere}
+use Rattle.tokens.specs.Sizes.{most-text}
 use Rattle.syntax.specs.Programs.{ReadAs}
-use Rattle.sentences.proofs.Inside.{refused-inside}
+use Rattle.rule_places.proofs.Inside.{refused-inside}
 use Rattle.report.specs.declared.Report.{Report as ReportRead}
 use Rattle.report.specs.declared.word.Word.{Word}
 use Rattle.report.specs.declared.word.Word.the-variants.{Answer, Inconsistent, Unknown}

@@ -4,17 +4,17 @@ use mathlib.Core.Bool.{true}
 use Prim.Native.Nat.{ℕ, _+_, _≤_, _<_}
 use native.Mathlib.Omega.{arith}
 use lib.ListN.{length, length-take, length-drop}
-use Rattle.lexis.specs.declared.Place.{Place}
-use Rattle.lexis.specs.Tokens.{part}
-use Rattle.lexis.specs.Sizes.{most-text}
+use Rattle.tokens.specs.declared.Place.{Place}
+use Rattle.tokens.specs.Tokens.{part}
+use Rattle.tokens.specs.Sizes.{most-text}
 use Rattle.reading.specs.Reading.{tree}
 use Rattle.meaning.specs.Rules.{Bytes}
 use Rattle.grammar.specs.Trees.{count, Program}
 use Rattle.grammar.specs.Sizes.{most-rules}
 use Rattle.syntax.specs.Programs.{ReadAs}
 use Rattle.syntax.specs.Text.{placed-from, end-of}
-use Rattle.sentences.proofs.Inside.{refused-inside, refused-number}
-use Rattle.sentences.proofs.Few.{read-few}
+use Rattle.rule_places.proofs.Inside.{refused-inside, refused-number}
+use Rattle.rule_places.proofs.Few.{read-few}
 use Rattle.report.specs.declared.word.Word.{Word}
 use Rattle.report.specs.declared.word.Word.the-variants.{Answer, Inconsistent, Unknown}
 use Rattle.report.specs.declared.around.Found.the-variants.{Line}

@@ -4,8 +4,8 @@ use mathlib.Core.Bool.{true}
 use mathlib.Core.List.{List}
 use Prim.Native.Nat.{ℕ, _≤_}
 use lib.ListN.{length}
-use Rattle.lexis.specs.declared.Place.{Place}
-use Rattle.lexis.specs.Sizes.{most-text}
+use Rattle.tokens.specs.declared.Place.{Place}
+use Rattle.tokens.specs.Sizes.{most-text}
 use Rattle.meaning.specs.Rules.{Bytes}
 use Rattle.grammar.specs.Trees.{Program}
 use Rattle.stages.specs.Stage.{on, Stage}

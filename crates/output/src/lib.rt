@@ -1,7 +1,7 @@
 // The solver's output as a whole: its report, the facts line behind ANSWER, and the lines behind the report.
 ghost use mathlib.Core.Path.{_≡_};
 ghost use Prim.Native.Nat.{_+_, _≤_};
-ghost use Rattle.lexis.specs.Sizes.{most-text};
+ghost use Rattle.tokens.specs.Sizes.{most-text};
 ghost use Rattle.report.specs.declared.word.Word.the-variants.{Answer};
 ghost use Rattle.factline.specs.Lines.{Fillable};
 ghost use Rattle.output.specs.Output.{on-line, Behind};
@@ -9,14 +9,14 @@ ghost use Rattle.output.specs.Answers.{refused, reported, line-fields, C
 ghost use Rattle.output.specs.Tables.{tables, Lent, Fills, FillsOutput};
 use factline::line::FactsRead;
 use factline::line::read_line;
-use lexis::NOWHERE;
-use lexis::Place;
-use lexis::place_from;
-use lexis::sizes::MOST_TEXT;
 use report::around::Found;
 use report::around::out_of_place;
 use report::find_report;
 use report::word::Word;
+use tokens::NOWHERE;
+use tokens::Place;
+use tokens::place_from;
+use tokens::sizes::MOST_TEXT;
 
 // The refusal of an output that has more.
 const TOO_LONG: u8 = 1;

@@ -21,8 +21,8 @@ use Rattle.codes.specs.Codes.{no-value}
 use Rattle.codes.specs.Domains.{codes}
 use Rattle.tables.specs.Rows.{literal-column, side-at, equation-at}
 use Rattle.tables.specs.WellFormed.{EquationRow}
-use Rattle.derived.specs.Members.{bit}
-use Rattle.derived.proofs.Bits.{bit-other}
+use Rattle.derived_set.specs.Members.{bit}
+use Rattle.derived_set.proofs.Bits.{bit-other}
 use Rattle.matching.specs.Known.{values-in}
 use Rattle.matching.proofs.Masks.{kept-all, kept-on, bound-to, bound-keeps, bound-more, still-mask}
 use Rattle.settle.specs.Settling.{Knowing, SideSays}

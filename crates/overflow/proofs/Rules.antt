@@ -16,7 +16,7 @@ use Rattle.codes.specs.Domains.{codes, code-in-range}
 use Rattle.tables.specs.Rows.{from, rule-column, literal-at, equation-at, equation-places, rule-at}
 use Rattle.tables.specs.WellFormed.{BodyRow, RuleRow}
 use Rattle.tables.proofs.Strides.{part-length}
-use Rattle.derived.specs.Members.{bit}
+use Rattle.derived_set.specs.Members.{bit}
 use Rattle.matching.specs.Store.{literals-in, rules-in}
 use Rattle.matching.specs.Known.{values-in}
 use Rattle.matching.proofs.Masks.{kept-all}

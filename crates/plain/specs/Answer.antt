@@ -3,10 +3,10 @@ use mathlib.Core.Bool.{false}
 use mathlib.Core.List.{_++_}
 use Prim.Native.Nat.{ℕ, _≤_, _<_}
 use lib.ListN.{length, drop}
-use Rattle.lexis.specs.declared.Place.{Place}
+use Rattle.tokens.specs.declared.Place.{Place}
 use Rattle.meaning.specs.Rules.{Bytes}
 use Rattle.grammar.specs.Trees.{Program}
-use Rattle.lexis.specs.Places.{nowhere}
+use Rattle.tokens.specs.Places.{nowhere}
 use Rattle.stages.specs.Parts.{Part}
 use Rattle.stages.specs.Stage.{on, stop}
 use Rattle.program.specs.Stage.{ProgramStage}

@@ -5,13 +5,13 @@ ghost use Rattle.names.specs.Table.{most-names};
 ghost use Rattle.names.specs.Numbering.{Empty};
 ghost use Rattle.plaintokens.specs.Promise.{Readable};
 ghost use Rattle.plain.specs.Answer.{AnswersPlain, Writes};
-use lexis::NOWHERE;
-use lexis::Place;
 use names::SMALL_TEXT;
 use plaintokens::write_tokens;
 use program::read_program;
 use program::space::literal_table;
 use program::space::rule_table;
+use tokens::NOWHERE;
+use tokens::Place;
 
 // The writer's answer: the number of a refusal and its part of the program; or 0, and the length of the plain form.
 pub struct Written {

@@ -5,7 +5,7 @@ use mathlib.Core.List.{List, []}
 use Prim.Native.Nat.{ℕ, _≤_}
 use native.Mathlib.Omega.{arith}
 use lib.ListN.{length}
-use Rattle.lexis.specs.Tokens.{tokensFrom}
+use Rattle.tokens.specs.Tokens.{tokensFrom}
 use Rattle.reading.specs.Reading.{Placed, tokens, unplaced, Within, Answer, tree, Reading, read, wrong, short, over}
 use Rattle.meaning.specs.Rules.{Bytes}
 use Rattle.grammar.specs.Tokens.{Token}

@@ -5,8 +5,8 @@ use mathlib.Core.List.{List, [], _∷_, _++_, append-assoc, append-nil}
 use Prim.Native.Nat.{ℕ, _+_, _-_, _≤_, _<_}
 use native.Mathlib.Omega.{arith}
 use lib.ListN.{length, getD, length-append}
-use Rattle.lexis.specs.Tokens.{part}
-use Rattle.lexis.proofs.Next.{forward}
+use Rattle.tokens.specs.Tokens.{part}
+use Rattle.tokens.proofs.Next.{forward}
 use Rattle.meaning.specs.Rules.{Bytes}
 use Rattle.grammar.specs.Tokens.{sign, <>, Token, name, variable, number, comparison, symbol, stray}
 use Rattle.grammar.specs.PlainForm.{plain-sign}

@@ -7,7 +7,7 @@ use native.Mathlib.Omega.{arith}
 use lib.Dec.{leb, ltb}
 use lib.ListN.{length}
 use lib.Seq.{take-length}
-use Rattle.lexis.specs.Sizes.{most-text}
+use Rattle.tokens.specs.Sizes.{most-text}
 use borrow.Author.Tests.{leb-false, ltb-true, ltb-false, lt-ltb}
 use Rattle.reading.specs.Reading.{_▹_}
 use Rattle.meaning.specs.Sets.{every}

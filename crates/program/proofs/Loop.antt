@@ -10,7 +10,7 @@ use native.Mathlib.Numerals.{add-one}
 use lib.Dec.{leb, ltb}
 use lib.ListN.{length, length-append}
 use borrow.Author.Tests.{leb-false, ltb-true, ltb-false}
-use Rattle.lexis.specs.declared.Place.{Place}
+use Rattle.tokens.specs.declared.Place.{Place}
 use Rattle.reading.specs.Reading.{unplaced, seen, tree, refused}
 use Rattle.reading.proofs.Lists.{unplaced-append, seen-append}
 use Rattle.meaning.specs.Sets.{every}
@@ -20,8 +20,8 @@ use Rattle.meaning.specs.Safety.{bound, safe}
 use Rattle.grammar.specs.Trees.{empty, _then_, count, Rule as Tree, Program}
 use Rattle.grammar.specs.Sizes.{too-many, programs}
 use Rattle.grammar.specs.Abstraction.{rule-for, rules-for}
-use Rattle.lexis.specs.Places.{nowhere}
-use Rattle.lexis.specs.Sizes.{most-text}
+use Rattle.tokens.specs.Places.{nowhere}
+use Rattle.tokens.specs.Sizes.{most-text}
 use Rattle.syntax.specs.Text.{placed-from, end-of}
 use Rattle.syntax.specs.Ahead.{firsts}
 use Rattle.syntax.specs.Rules.{behind-rules, RulePlace}

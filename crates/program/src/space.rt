@@ -2,10 +2,10 @@
 ghost use mathlib.Core.Path.{_≡_};
 ghost use lib.ListN.{replicate};
 ghost use Rattle.program.specs.Rules.{rules-size, literals-size};
-use lexis::sizes::MOST_RULES;
 use tables::LITERAL;
 use tables::ROWS;
 use tables::RULE;
+use tokens::sizes::MOST_RULES;
 
 pub const RULES: usize = MOST_RULES * RULE;
 

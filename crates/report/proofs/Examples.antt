@@ -2,7 +2,7 @@
 use Prim.Native.Nat.{ℕ}
 use mathlib.Core.Path.{_≡_, refl, subst}
 use mathlib.Core.List.{List, [], _∷_, _++_, map, head-eq-of-cons-eq, tail-eq-of-cons-eq}
-use Rattle.lexis.specs.Places.{nowhere, place-from}
+use Rattle.tokens.specs.Places.{nowhere, place-from}
 use Rattle.report.specs.declared.word.Word.the-variants.{Answer, Inconsistent, Unknown}
 use Rattle.report.specs.declared.around.Found.{Found}
 use Rattle.report.specs.declared.around.Found.the-variants.{Nothing, Line}

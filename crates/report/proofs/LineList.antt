@@ -9,12 +9,12 @@ use lib.Dec.{eqb, ltb}
 use lib.ListN.{length, take, drop, length-take, length-drop, drop-of-length-le}
 use lib.Seq.{drop-drop}
 use borrow.Author.Tests.{ltb-true, ltb-false}
-use Rattle.lexis.specs.declared.Place.{Place}
-use Rattle.lexis.specs.Run.{inLine, prefixLen}
-use Rattle.lexis.proofs.Prefix.{prefix-nil, prefix-more, prefix-none}
-use Rattle.lexis.proofs.Every.{prefix-inside}
-use Rattle.lexis.specs.Tokens.{part}
-use Rattle.lexis.specs.Places.{place-from}
+use Rattle.tokens.specs.declared.Place.{Place}
+use Rattle.tokens.specs.Run.{inLine, prefixLen}
+use Rattle.tokens.proofs.Prefix.{prefix-nil, prefix-more, prefix-none}
+use Rattle.tokens.proofs.Every.{prefix-inside}
+use Rattle.tokens.specs.Tokens.{part}
+use Rattle.tokens.specs.Places.{place-from}
 use Rattle.report.specs.Lines.{longer, linesAt, linesFrom, lineEnd, nextLine, lineAt}
 
 pub lines-nil : (at : ℕ) → linesAt at [] ≡ []

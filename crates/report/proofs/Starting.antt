@@ -6,8 +6,8 @@ use mathlib.Core.List.{List, [], _∷_, _++_}
 use lib.Dec.{eqb}
 use lib.ListN.{length, getD, drop, drop-of-length-le}
 use borrow.Author.Tests.{eqb-true, eq-eqb, ne-eqb}
-use Rattle.lexis.proofs.Conjunction.{both}
-use Rattle.lexis.proofs.Prefix.{drop-at}
+use Rattle.tokens.proofs.Conjunction.{both}
+use Rattle.tokens.proofs.Prefix.{drop-at}
 use Rattle.report.specs.Word.{startsWith}
 
 module _ (word line : List ℕ) (i : ℕ) where

@@ -6,9 +6,9 @@ use mathlib.Core.List.{List, [], _∷_, _++_}
 use lib.Dec.{eqb}
 use lib.ListN.{getD}
 use borrow.Author.Tests.{eqb-true}
-use Rattle.lexis.specs.declared.Place.{Place}
-use Rattle.lexis.specs.Tokens.{part}
-use Rattle.lexis.proofs.Conjunction.{both}
+use Rattle.tokens.specs.declared.Place.{Place}
+use Rattle.tokens.specs.Tokens.{part}
+use Rattle.tokens.proofs.Conjunction.{both}
 use Rattle.report.specs.declared.word.Word.{Word}
 use Rattle.report.specs.declared.word.Word.the-variants.{Answer, Inconsistent, Unknown}
 use Rattle.report.specs.declared.around.Found.{Found}

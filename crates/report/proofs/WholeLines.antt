@@ -9,14 +9,14 @@ use mathlib.Core.List.{List, [], _∷_, _++_, nil≢cons, tail-eq-of-cons-eq}
 use lib.Dec.{eqb}
 use lib.ListN.{length, take, drop, length-drop}
 use lib.Seq.{drop-drop}
-use Rattle.lexis.specs.declared.Place.{Place}
-use Rattle.lexis.specs.Run.{inLine}
-use Rattle.lexis.specs.Spelling.{every}
-use Rattle.lexis.specs.Tokens.{part}
+use Rattle.tokens.specs.declared.Place.{Place}
+use Rattle.tokens.specs.Run.{inLine}
+use Rattle.tokens.specs.Spelling.{every}
+use Rattle.tokens.specs.Tokens.{part}
 use borrow.Author.Tests.{eqb-true, eq-eqb, not-true}
-use Rattle.lexis.proofs.Conjunction.{both}
-use Rattle.lexis.proofs.Every.{every-nil}
-use Rattle.lexis.specs.Places.{place-from}
+use Rattle.tokens.proofs.Conjunction.{both}
+use Rattle.tokens.proofs.Every.{every-nil}
+use Rattle.tokens.specs.Places.{place-from}
 use Rattle.report.specs.Lines.{longer, linesAt, lines, InOrder, joined, ended, AreLines}
 use Rattle.report.proofs.LineList.{lines-nil, lines-newline, lines-longer, others-in}
 

@@ -4,8 +4,8 @@ use mathlib.Core.Path.{_≡_}
 use mathlib.Core.Bool.{Bool, true, false}
 use mathlib.Core.List.{List, [], _∷_, _++_}
 use lib.Dec.{eqb}
-use Rattle.lexis.specs.declared.Place.{Place}
-use Rattle.lexis.specs.Tokens.{part}
+use Rattle.tokens.specs.declared.Place.{Place}
+use Rattle.tokens.specs.Tokens.{part}
 use Rattle.report.specs.declared.around.Found.{Found}
 use Rattle.report.specs.declared.around.Found.the-variants.{Nothing, Line}
 use Rattle.report.specs.Lines.{linesFrom}

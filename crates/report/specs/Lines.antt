@@ -5,11 +5,11 @@ use mathlib.Core.Bool.{Bool, true, cond}
 use mathlib.Core.List.{List, [], _∷_, _++_}
 use lib.Dec.{eqb, ltb}
 use lib.ListN.{length, drop}
-use Rattle.lexis.specs.declared.Place.{Place}
-use Rattle.lexis.specs.Run.{inLine, prefixLen}
-use Rattle.lexis.specs.Spelling.{every}
-use Rattle.lexis.specs.Tokens.{part}
-use Rattle.lexis.specs.Places.{place-from}
+use Rattle.tokens.specs.declared.Place.{Place}
+use Rattle.tokens.specs.Run.{inLine, prefixLen}
+use Rattle.tokens.specs.Spelling.{every}
+use Rattle.tokens.specs.Tokens.{part}
+use Rattle.tokens.specs.Places.{place-from}
 
 -- a byte before lines belongs to the first of them, or is one of its own
 abbrev pub longer : ℕ → List Place → List Place

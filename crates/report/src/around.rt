@@ -4,8 +4,8 @@ ghost use Rattle.report.specs.Around.{isIdle, OutOfPlace};
 use crate::line::has_line;
 use crate::line::next_line;
 use crate::reader::line_from;
-use lexis::Place;
-use lexis::place_from;
+use tokens::Place;
+use tokens::place_from;
 
 // A line, or none.
 pub enum Found {

@@ -4,12 +4,12 @@ ghost use Rattle.report.specs.Lines.{linesFrom};
 ghost use Rattle.report.specs.Report.{refused, found, reported, Reported};
 use around::Found;
 use around::out_of_place;
-use lexis::NOWHERE;
-use lexis::Place;
-use lexis::place_from;
 use line::has_line;
 use line::next_line;
 use reader::line_from;
+use tokens::NOWHERE;
+use tokens::Place;
+use tokens::place_from;
 use word::Word;
 use word::starts_with;
 

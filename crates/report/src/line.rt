@@ -1,9 +1,9 @@
 // Lines of a text: whether one stands at a place, where it ends, its bytes, and where the next one begins.
 ghost use mathlib.Core.Path.{_≡_};
-ghost use Rattle.lexis.specs.Tokens.{part};
+ghost use Rattle.tokens.specs.Tokens.{part};
 ghost use Rattle.report.specs.Lines.{hasLine, lineEnd, nextLine, lineAt, behindLine};
-use lexis::run::Run;
-use lexis::run::run_end;
+use tokens::run::Run;
+use tokens::run::run_end;
 
 // Is there a line from `at` on? At the text's end, so behind a last newline, there is none.
 pub fn has_line(text: &[u8], at: usize) -> bool

@@ -2,17 +2,17 @@
 ghost use mathlib.Core.Path.{_≡_};
 ghost use mathlib.Core.Bool.{true};
 ghost use mathlib.Core.List.{[]};
-ghost use Rattle.lexis.specs.Tokens.{part};
+ghost use Rattle.tokens.specs.Tokens.{part};
 ghost use Rattle.meaning.specs.Values.{number, in-range};
 ghost use Rattle.codes.specs.Codes.{number-code};
 ghost use Rattle.names.specs.Numbering.{Interns};
 ghost use Rattle.syntax.specs.Terms.{signed};
 ghost use Rattle.rows.specs.Growth.{Room, Source};
 use codes::FIRST_NUMBER;
-use lexis::Place;
-use lexis::parts::part;
 use names::Found;
 use names::intern;
+use tokens::Place;
+use tokens::parts::part;
 
 // The code of 0.
 const ZERO: u64 = FIRST_NUMBER + 1_000_000_000;

@@ -7,9 +7,9 @@ use native.Mathlib.Omega.{arith}
 use lib.Dec.{eqb, ltb}
 use lib.ListN.{getD}
 use borrow.Author.Tests.{eqb-true, eqb-false, ltb-true, ltb-false}
-use Rattle.lexis.specs.declared.Place.{Place}
-use Rattle.lexis.specs.Places.{nowhere, place-in, places-in}
-use Rattle.lexis.proofs.PlaceTables.{places-length, place-among}
+use Rattle.tokens.specs.declared.Place.{Place}
+use Rattle.tokens.specs.Places.{nowhere, place-in, places-in}
+use Rattle.tokens.proofs.PlaceTables.{places-length, place-among}
 use Rattle.rulesafety.specs.declared.unbound.Unbound.{Unbound}
 use Rattle.rulesafety.specs.Unbound.{no-unbound, FirstUnbound, found, all-bound}
 

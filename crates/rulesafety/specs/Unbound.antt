@@ -4,8 +4,8 @@ use mathlib.Core.Bool.{Bool, true, false}
 use mathlib.Core.List.{List}
 use Prim.Native.Nat.{ℕ, _*_, _≤_, _<_}
 use lib.ListN.{getD, length}
-use Rattle.lexis.specs.declared.Place.{Place}
-use Rattle.lexis.specs.Places.{nowhere}
+use Rattle.tokens.specs.declared.Place.{Place}
+use Rattle.tokens.specs.Places.{nowhere}
 use Rattle.tables.specs.Layout.{most-variables}
 use Rattle.rulesafety.specs.declared.unbound.Unbound.{Unbound}
 

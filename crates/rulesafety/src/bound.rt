@@ -10,13 +10,13 @@ ghost use Rattle.tables.specs.Rows.{from, term-of, literal-at};
 ghost use Rattle.tables.specs.WellFormed.{Inside};
 ghost use Rattle.rulesafety.specs.Bound.{bitsOf, no-variables, with-variable, Adds, in-literal, BodyInside};
 use codes::NO_VALUE;
-use lexis::sizes::MOST_VARIABLES;
 use tables::ARITIES;
 use tables::LITERAL;
 use tables::POSITIVE;
 use tables::PREDICATE;
 use tables::SORT;
 use tables::TERMS;
+use tokens::sizes::MOST_VARIABLES;
 
 // Of each variable of a rule, by its number, whether it is bound.
 pub struct Bound {

@@ -8,10 +8,10 @@ ghost use Rattle.tables.specs.Rows.{literal-column};
 ghost use Rattle.tables.specs.WellFormed.{Inside};
 ghost use Rattle.rulesafety.specs.Bound.{BodyInside};
 ghost use Rattle.rulesafety.specs.Listed.{no-rows, with-listed, Lists, positive-rows};
-use lexis::sizes::MOST_LITERALS;
 use tables::LITERAL;
 use tables::POSITIVE;
 use tables::SORT;
+use tokens::sizes::MOST_LITERALS;
 
 // Rows of literals: the first `count` of them.
 pub struct Rows {

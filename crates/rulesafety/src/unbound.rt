@@ -1,11 +1,11 @@
 // The first variable of a rule that is not bound.
-ghost use Rattle.lexis.specs.Places.{places-in};
+ghost use Rattle.tokens.specs.Places.{places-in};
 ghost use Rattle.rulesafety.specs.Bound.{bitsOf};
 ghost use Rattle.rulesafety.specs.Unbound.{Numbered, FirstUnbound};
 use crate::bound::Bound;
-use lexis::NOWHERE;
-use lexis::Place;
-use lexis::places::place_in;
+use tokens::NOWHERE;
+use tokens::Place;
+use tokens::places::place_in;
 
 // The first variable that is not bound, at its first occurrence; or none was found, and the place is empty.
 pub struct Unbound {

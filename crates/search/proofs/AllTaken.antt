@@ -10,8 +10,8 @@ use borrow.Author.Tests.{lt-ltb, le-ltb}
 use lib.ListN.{length, getD, set, length-set}
 use lib.Seq.{getD-set-same, getD-set-other}
 use Rattle.meaning.proofs.Booleans.{same-or-not}
-use Rattle.derived.specs.Members.{one-if, count}
-use Rattle.derived.proofs.Sizes.{count-all}
+use Rattle.derived_set.specs.Members.{one-if, count}
+use Rattle.derived_set.proofs.Sizes.{count-all}
 use Rattle.queue.specs.Places.{upto}
 use Rattle.queue.specs.Queue.{place, Queued, Fresh}
 use Rattle.search.specs.Searched.{AllTaken}

@@ -7,13 +7,13 @@ use mathlib.Core.List.{List, [], _∷_, _++_, map, head-eq-of-cons-eq, tail-eq-o
 use Prim.Native.Nat.{ℕ}
 use native.Mathlib.Omega.{arith}
 use lib.ListN.{length, drop}
-use Rattle.lexis.specs.Class.{classOf}
-use Rattle.lexis.specs.Run.{isBlank, prefixLen}
-use Rattle.lexis.specs.Gap.{startsComment, gap}
-use Rattle.lexis.specs.Number.{decimalAfter}
-use Rattle.lexis.specs.Spelling.{singleKind, pairKind, nameKind}
-use Rattle.lexis.specs.Token.{markAt, tokenAt, nextToken}
-use Rattle.lexis.specs.Tokens.{tokensUpTo, tokensFrom}
+use Rattle.tokens.specs.Class.{classOf}
+use Rattle.tokens.specs.Run.{isBlank, prefixLen}
+use Rattle.tokens.specs.Gap.{startsComment, gap}
+use Rattle.tokens.specs.Number.{decimalAfter}
+use Rattle.tokens.specs.Spelling.{singleKind, pairKind, nameKind}
+use Rattle.tokens.specs.Token.{markAt, tokenAt, nextToken}
+use Rattle.tokens.specs.Tokens.{tokensUpTo, tokensFrom}
 use Rattle.meaning.specs.Sets.{In, every, any, Each}
 use Rattle.meaning.specs.Rules.{Fact, Rule, predicate}
 use Rattle.meaning.specs.Values.{same-number, same-bytes, same-value, Value, values, in-range}
@@ -28,14 +28,14 @@ use Rattle.grammar.specs.Moves.{comparison-number, sign-number, token-number}
 use Rattle.grammar.specs.Abstraction.{value-for, values-for, argument-values-for, fact-for, facts-for}
 use Rattle.grammar.proofs.Computing.{computing}
 use Rattle.syntax.specs.Text.{token-of}
-use Rattle.sentences.specs.Sentences.{behind-dots, dot-end, to-dot, sentence}
+use Rattle.rule_places.specs.Sentences.{behind-dots, dot-end, to-dot, sentence}
 use Rattle.program.proofs.Numbered.{head-variables, rule-variables}
 use Rattle.report.specs.Lines.{linesAt}
 use Rattle.report.specs.Word.{startsWith}
 use Rattle.report.proofs.Answers.{report-of, out-of-place-of}
-use Rattle.answered.specs.Answer.{Result, positions, says, result}
-use Rattle.answered.specs.Judged.{settles}
-use Rattle.answered.specs.Answered.{rule-part}
+use Rattle.promise.specs.Answer.{Result, positions, says, result}
+use Rattle.promise.specs.Judged.{settles}
+use Rattle.promise.specs.Answered.{rule-part}
 use Rattle.smallexamples.specs.Examples.{Example, Holds, examples}
 use Rattle.smallexamples.proofs.Unclashing.{unlike, apart}
 use Rattle.smallexamples.proofs.Bound.{every-below, all-bound}

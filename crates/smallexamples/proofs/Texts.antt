@@ -9,9 +9,9 @@ use native.Mathlib.Omega.{arith}
 use lib.Dec.{eqb, leb}
 use lib.ListN.{length}
 use borrow.Author.Tests.{leb-true}
-use Rattle.lexis.specs.declared.Place.{Place}
-use Rattle.lexis.specs.Sizes.{most-text}
-use Rattle.lexis.specs.Tokens.{part}
+use Rattle.tokens.specs.declared.Place.{Place}
+use Rattle.tokens.specs.Sizes.{most-text}
+use Rattle.tokens.specs.Tokens.{part}
 use Rattle.reading.specs.Reading.{Answer as Reading, tree, refused}
 use Rattle.reading.specs.Machine.{answer}
 use Rattle.meaning.specs.Rules.{Bytes, Fact, Rule}
@@ -41,12 +41,12 @@ use Rattle.report.proofs.Answers.{report-of, out-of-place-of}
 use Rattle.program.specs.Stage.{ProgramStage}
 use Rattle.program.proofs.Bound.{taken}
 use Rattle.output.specs.Output.{facts, opens, closes, OutputStage}
-use Rattle.answered.specs.Answer.{Answer, Result, result}
-use Rattle.answered.specs.Answer as answers
-use Rattle.answered.specs.Judged.{settles}
-use Rattle.answered.specs.Answered.{rule-part, Candidate, Check, Answered}
-use Rattle.answered.specs.Refusals.{Unclashing}
-use Rattle.answered.proofs.Judged.{settled-is}
+use Rattle.promise.specs.Answer.{Answer, Result, result}
+use Rattle.promise.specs.Answer as answers
+use Rattle.promise.specs.Judged.{settles}
+use Rattle.promise.specs.Answered.{rule-part, Candidate, Check, Answered}
+use Rattle.promise.specs.Refusals.{Unclashing}
+use Rattle.promise.proofs.Judged.{settled-is}
 use Rattle.smallexamples.proofs.Unclashing.{apart, unclashing}
 use Rattle.smallexamples.proofs.Bound.{all-bound, are-bound}
 

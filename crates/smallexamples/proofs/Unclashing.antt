@@ -14,7 +14,7 @@ use Rattle.meaning.proofs.Booleans.{and-left, and-right, or-left, or-right, not
 use Rattle.meaning.proofs.Sets.{at-in, every-in}
 use Rattle.meaning.proofs.Facts.{same-fact-test}
 use Rattle.meaning.proofs.Values.{value-laws}
-use Rattle.answered.specs.Cases.{opposite, Clash, repeats, opposes}
+use Rattle.promise.specs.Cases.{opposite, Clash, repeats, opposes}
 
 -- b neither is a, nor differs from it only in sign
 unfoldable pub unlike : Fact Value → Fact Value → Bool

@@ -3,12 +3,12 @@ use Prim.Native.Nat.{ℕ, _≤_, _<_}
 use Prim.Native.String.{String}
 use mathlib.Core.List.{List, [], _∷_, _++_}
 use lib.ListN.{length, drop}
-use Rattle.lexis.specs.Places.{place-from}
+use Rattle.tokens.specs.Places.{place-from}
 use Rattle.meaning.specs.Rules.{Bytes}
 use Rattle.meaning.specs.Ascii.{ascii}
 use Rattle.stages.specs.Parts.{program, output, in-text, start-of}
-use Rattle.answered.specs.Answer.{Answer, refused, accepted, unsatisfied, smaller}
-use Rattle.answered.specs.Answered.{Answered}
+use Rattle.promise.specs.Answer.{Answer, refused, accepted, unsatisfied, smaller}
+use Rattle.promise.specs.Answered.{Answered}
 
 pub record Example : Type 0 where
   pub program : Bytes

@@ -1,7 +1,7 @@
 -- The two lent texts, and a part of either.
 use Prim.Native.Nat.{ℕ}
-use Rattle.lexis.specs.declared.Place.{Place}
-use Rattle.lexis.specs.Places.{place-from}
+use Rattle.tokens.specs.declared.Place.{Place}
+use Rattle.tokens.specs.Places.{place-from}
 
 pub data Text : Type 0 where
   program output : Text

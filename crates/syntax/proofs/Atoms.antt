@@ -8,8 +8,8 @@ use native.Mathlib.Omega.{arith}
 use lib.Dec.{eqb, leb}
 use lib.ListN.{length}
 use borrow.Author.Tests.{ne-eqb, eqb-true, eqb-false, leb-true}
-use Rattle.lexis.specs.declared.Place.{Place}
-use Rattle.lexis.specs.Tokens.{part}
+use Rattle.tokens.specs.declared.Place.{Place}
+use Rattle.tokens.specs.Tokens.{part}
 use Rattle.reading.specs.Reading.{refused}
 use Rattle.meaning.specs.Rules.{Bytes, Term, Atom}
 use Rattle.meaning.specs.Values.{Value}

@@ -8,10 +8,10 @@ use native.Mathlib.Omega.{arith}
 use lib.Dec.{eqb, leb}
 use lib.ListN.{length}
 use borrow.Author.Tests.{ne-eqb, eqb-true, eqb-false}
-use Rattle.lexis.specs.declared.Place.{Place}
-use Rattle.lexis.specs.Tokens.{part}
-use Rattle.lexis.specs.Token.{nextToken}
-use Rattle.lexis.proofs.KindNumber.{kind-at-number}
+use Rattle.tokens.specs.declared.Place.{Place}
+use Rattle.tokens.specs.Tokens.{part}
+use Rattle.tokens.specs.Token.{nextToken}
+use Rattle.tokens.proofs.KindNumber.{kind-at-number}
 use Rattle.reading.specs.Reading.{refused}
 use Rattle.meaning.specs.Domain.{Comparison}
 use Rattle.meaning.specs.Rules.{Bytes, Term, plain, Literal, builtin, Side}

@@ -8,9 +8,9 @@ use native.Mathlib.Omega.{arith}
 use lib.Dec.{leb}
 use lib.ListN.{length}
 use borrow.Author.Tests.{ne-eqb, lt-ltb, le-ltb}
-use Rattle.lexis.specs.declared.Place.{Place}
-use Rattle.lexis.specs.Number.{capped, decimal}
-use Rattle.lexis.specs.Tokens.{part}
+use Rattle.tokens.specs.declared.Place.{Place}
+use Rattle.tokens.specs.Number.{capped, decimal}
+use Rattle.tokens.specs.Tokens.{part}
 use Rattle.reading.specs.Reading.{_▹_}
 use Rattle.meaning.specs.Rules.{Bytes, Term, constant, variable}
 use Rattle.meaning.specs.Values.{Value, same-bytes}

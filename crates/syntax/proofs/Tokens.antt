@@ -6,16 +6,16 @@ use Prim.Native.Nat.{ℕ, _+_, _≤_, _<_}
 use native.Mathlib.Omega.{arith}
 use lib.ListN.{length, length-take, length-drop}
 use borrow.Author.Tests.{eq-eqb, ne-eqb}
-use Rattle.lexis.specs.declared.kind.Kind.{Kind}
-use Rattle.lexis.specs.declared.kind.Kind.the-variants.{Name, Not, Variable, Anonymous, Number, Open, Close, Comma, Dot, If, Minus, Plus, Times, Equal, Unequal, AlsoUnequal, Less, AtMost, Greater, AtLeast, End, Stray}
-use Rattle.lexis.specs.declared.Token.{Token as TextToken}
-use Rattle.lexis.specs.Kind.{kindNumber, isEnd}
-use Rattle.lexis.specs.Token.{nextToken}
-use Rattle.lexis.specs.Tokens.{part}
-use Rattle.lexis.specs.Spelling.{kindOf}
-use Rattle.lexis.proofs.KindNumber.{kindAt, kind-at-number}
-use Rattle.lexis.proofs.Next.{inside, end-place, next-kind, onward}
-use Rattle.lexis.proofs.TokenList.{tokens-end, tokens-more}
+use Rattle.tokens.specs.declared.kind.Kind.{Kind}
+use Rattle.tokens.specs.declared.kind.Kind.the-variants.{Name, Not, Variable, Anonymous, Number, Open, Close, Comma, Dot, If, Minus, Plus, Times, Equal, Unequal, AlsoUnequal, Less, AtMost, Greater, AtLeast, End, Stray}
+use Rattle.tokens.specs.declared.Token.{Token as TextToken}
+use Rattle.tokens.specs.Kind.{kindNumber, isEnd}
+use Rattle.tokens.specs.Token.{nextToken}
+use Rattle.tokens.specs.Tokens.{part}
+use Rattle.tokens.specs.Spelling.{kindOf}
+use Rattle.tokens.proofs.KindNumber.{kindAt, kind-at-number}
+use Rattle.tokens.proofs.Next.{inside, end-place, next-kind, onward}
+use Rattle.tokens.proofs.TokenList.{tokens-end, tokens-more}
 use Rattle.meaning.specs.Rules.{Bytes}
 use Rattle.grammar.specs.Tokens.{Token}
 use Rattle.grammar.specs.Moves.{symbol-number, comparison-number, sign-number, token-number}

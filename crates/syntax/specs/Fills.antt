@@ -4,8 +4,8 @@ use mathlib.Core.Bool.{Bool, false}
 use mathlib.Core.List.{List}
 use Prim.Native.Nat.{ℕ, _≤_}
 use lib.ListN.{length}
-use Rattle.lexis.specs.declared.Place.{Place}
-use Rattle.lexis.specs.Places.{nowhere}
+use Rattle.tokens.specs.declared.Place.{Place}
+use Rattle.tokens.specs.Places.{nowhere}
 use Rattle.reading.specs.Reading.{refused}
 use Rattle.meaning.specs.Rules.{Bytes}
 use Rattle.grammar.specs.Spelling.{Spelling}

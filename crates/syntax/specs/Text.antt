@@ -3,15 +3,15 @@ use mathlib.Core.Bool.{Bool, not}
 use mathlib.Core.List.{List, map}
 use Prim.Native.Nat.{ℕ}
 use lib.ListN.{length, getD}
-use Rattle.lexis.specs.declared.kind.Kind.{Kind}
-use Rattle.lexis.specs.declared.kind.Kind.the-variants.{Name, Not, Variable, Anonymous, Number, Open, Close, Comma, Dot, If, Minus, Plus, Times, Equal, Unequal, AlsoUnequal, Less, AtMost, Greater, AtLeast, End, Stray}
-use Rattle.lexis.specs.declared.Place.{Place}
-use Rattle.lexis.specs.declared.Token.{Token as TextToken}
-use Rattle.lexis.specs.Kind.{kindNumber}
-use Rattle.lexis.specs.Number.{decimal}
-use Rattle.lexis.specs.Token.{nextToken}
-use Rattle.lexis.specs.Tokens.{part, after, tokensFrom}
-use Rattle.lexis.specs.Places.{place-from}
+use Rattle.tokens.specs.declared.kind.Kind.{Kind}
+use Rattle.tokens.specs.declared.kind.Kind.the-variants.{Name, Not, Variable, Anonymous, Number, Open, Close, Comma, Dot, If, Minus, Plus, Times, Equal, Unequal, AlsoUnequal, Less, AtMost, Greater, AtLeast, End, Stray}
+use Rattle.tokens.specs.declared.Place.{Place}
+use Rattle.tokens.specs.declared.Token.{Token as TextToken}
+use Rattle.tokens.specs.Kind.{kindNumber}
+use Rattle.tokens.specs.Number.{decimal}
+use Rattle.tokens.specs.Token.{nextToken}
+use Rattle.tokens.specs.Tokens.{part, after, tokensFrom}
+use Rattle.tokens.specs.Places.{place-from}
 use Rattle.reading.specs.Reading.{Placed}
 use Rattle.meaning.specs.Domain.{equal, unequal, less, at-most, greater, at-least}
 use Rattle.meaning.specs.Rules.{Bytes}

@@ -4,8 +4,8 @@ ghost use Rattle.syntax.specs.Arguments.{goneSeparator, Separates};
 use crate::token::Progress;
 use crate::token::token_at;
 use crate::word::WRONG;
-use lexis::NOWHERE;
-use lexis::kind::COMMA;
+use tokens::NOWHERE;
+use tokens::kind::COMMA;
 
 // A comma, or, where `last`, the mark.
 pub struct SeparatorRead {

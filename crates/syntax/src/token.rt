@@ -1,9 +1,9 @@
 // The token at a place, as the productions see it, and how far reading has got.
 ghost use mathlib.Core.Path.{_≡_};
 ghost use Rattle.syntax.specs.Text.{tokenRead};
-use lexis::Place;
-use lexis::kind::kind_number;
-use lexis::next_token;
+use tokens::Place;
+use tokens::kind::kind_number;
+use tokens::next_token;
 
 // A token: the number of its kind, where it stands, and where reading goes on behind it.
 pub struct TokenRead {

@@ -3,13 +3,13 @@ ghost use mathlib.Core.Path.{_≡_};
 ghost use mathlib.Core.List.{map};
 ghost use Prim.Native.Nat.{_*_, _≤_};
 ghost use lib.ListN.{length};
-ghost use Rattle.lexis.specs.Tokens.{part};
-ghost use Rattle.lexis.specs.Places.{places-in};
+ghost use Rattle.tokens.specs.Tokens.{part};
+ghost use Rattle.tokens.specs.Places.{places-in};
 ghost use Rattle.syntax.specs.Variables.{first-among};
-use lexis::Place;
-use lexis::parts::part;
-use lexis::parts::same_bytes;
-use lexis::places::place_in;
+use tokens::Place;
+use tokens::parts::part;
+use tokens::parts::same_bytes;
+use tokens::places::place_in;
 
 // Which of the `met` variables has the same bytes as `place`: the number of the first, or how many there are.
 pub fn variable_number(text: &[u8], place: Place, variables: &[u32], met: usize) -> usize

@@ -1,8 +1,8 @@
 // The numbers of refusal that a token gets, and that of a word.
 ghost use mathlib.Core.Path.{_≡_};
 ghost use Rattle.syntax.specs.Terms.{wordCode};
-use lexis::Place;
-use lexis::sizes::MOST_NAME;
+use tokens::Place;
+use tokens::sizes::MOST_NAME;
 
 // A token that the grammar can't have there.
 pub const WRONG: u8 = 2;

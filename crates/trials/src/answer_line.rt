@@ -5,14 +5,14 @@ use crate::print::number;
 use crate::print::place;
 use crate::print::refused;
 use crate::print::say;
-use derived::Derived;
-use derived::PLACES;
+use derived_set::Derived;
+use derived_set::PLACES;
 use fields::answer::Answer;
 use fields::answer::Kind;
 use fields::answer::Part;
 use fields::answer::Text;
-use lexis::parts::least;
-use lexis::sizes::MOST_LITERALS;
+use tokens::parts::least;
+use tokens::sizes::MOST_LITERALS;
 
 // A blank and a number of a list.
 fn item(n: u64) {

@@ -9,8 +9,8 @@ use crate::frame::number_behind;
 use crate::frame::read_bytes;
 use crate::places::fill;
 use checker::check;
-use lexis::parts::part;
-use lexis::place_from;
+use tokens::parts::part;
+use tokens::place_from;
 
 // The texts are the program, of this length, and the output behind it.
 fn trial(texts: &[u8], program_len: usize, output_len: usize, code: u64, places: &mut [u16]) {

@@ -1,10 +1,10 @@
 // A frame: the words and numbers of its first line, and the bytes behind it.
 ghost use mathlib.Core.Path.{_≡_};
 ghost use Prim.Native.Nat.{_≤_};
-use lexis::parts::part;
-use lexis::parts::same_bytes;
-use lexis::place_from;
 use libc::STDIN_FILENO;
+use tokens::parts::part;
+use tokens::parts::same_bytes;
+use tokens::place_from;
 
 // The most bytes of a frame's first line.
 pub const MOST_LINE: usize = 64;

@@ -10,10 +10,10 @@ use crate::print::number;
 use crate::print::place;
 use crate::print::refused;
 use crate::print::say;
-use lexis::parts::part;
-use lexis::place_from;
 use plain::Written;
 use plain::write_plain;
+use tokens::parts::part;
+use tokens::place_from;
 
 // What a byte of the buffer is before the call.
 fn pattern(at: usize) -> u8 {

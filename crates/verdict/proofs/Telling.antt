@@ -4,9 +4,9 @@ use mathlib.Core.Bool.{false}
 use mathlib.Core.List.{List}
 use Prim.Native.Nat.{ℕ, _+_, _^_, _<_}
 use lib.ListN.{length, getD}
-use Rattle.lexis.specs.declared.Place.{Place}
+use Rattle.tokens.specs.declared.Place.{Place}
 use Rattle.meaning.specs.Rules.{Bytes}
-use Rattle.sentences.specs.Sentences.{sentence}
+use Rattle.rule_places.specs.Sentences.{sentence}
 use Rattle.judge.specs.declared.Judgement.{Judgement}
 use Rattle.judge.specs.declared.Kind.{Kind}
 use Rattle.judge.specs.declared.Kind.the-variants.{OutOfRange, Unsatisfied, Accepted, Smaller}

@@ -6,7 +6,7 @@ use Prim.Native.Nat.{ℕ, _+_, _^_, _≤_, _<_, min}
 use lib.ListN.{length, getD}
 use Rattle.meaning.specs.Rules.{Bytes}
 use Rattle.grammar.specs.Sizes.{most-literals}
-use Rattle.sentences.specs.Sentences.{sentence}
+use Rattle.rule_places.specs.Sentences.{sentence}
 use Rattle.judge.specs.declared.Judgement.{Judgement}
 use Rattle.judge.specs.declared.Kind as judged
 use Rattle.judge.specs.declared.Kind.the-variants.{OutOfRange, Unsatisfied, Accepted, Smaller}

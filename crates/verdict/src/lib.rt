@@ -11,9 +11,9 @@ use fields::answer::smaller;
 use fields::answer::unsatisfied;
 use judge::Judgement;
 use judge::Kind;
-use lexis::parts::least;
-use lexis::sizes::MOST_LITERALS;
-use sentences::sentence;
+use rule_places::sentence;
+use tokens::parts::least;
+use tokens::sizes::MOST_LITERALS;
 
 // The refusal where arithmetic leaves the range.
 const OUT_OF_RANGE: u8 = 8;

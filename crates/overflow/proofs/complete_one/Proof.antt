@@ -1,7 +1,7 @@
 -- `complete_one` meets its contract: a variable that has a value, a right side without one, and one with a value. Assumes nothing.
 use native.Mathlib.Omega.{arith}
 use Rattle.tables.specs.Rows.{literal-column}
-use Rattle.derived.proofs.Bits.{one-shifted}
+use Rattle.derived_set.proofs.Bits.{one-shifted}
 use Rattle.matching.proofs.Masks.{bit-set, bit-clear}
 use Rattle.overflow.proofs.Completing.{has-value, no-right, has-right}
 use borrow.Author.Needs.{needs}

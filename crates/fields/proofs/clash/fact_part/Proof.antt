@@ -1,7 +1,7 @@
 -- `fact_part` meets its contract: the fact's start and length are those of the tables. Assumes nothing.
 use mathlib.Core.Path.{ap₂, _∙_}
 use borrow.Author.Needs.{needs}
-use Rattle.lexis.specs.Places.{place-from}
+use Rattle.tokens.specs.Places.{place-from}
 use Rattle.fields.proofs.clash.fact_part.Statement.{statement}
 use Rattle.fields.proofs.clash.fact_part.Tie as tie
 

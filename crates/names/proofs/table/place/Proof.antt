@@ -1,6 +1,6 @@
 -- `table::place` meets its contract. Assumes nothing.
 use mathlib.Core.Path.{ap₂, _∙_}
-use Rattle.lexis.specs.Places.{place-from}
+use Rattle.tokens.specs.Places.{place-from}
 use borrow.Author.Needs.{needs}
 use Rattle.names.proofs.table.place.Statement.{statement}
 use Rattle.names.proofs.table.place.Tie as tie

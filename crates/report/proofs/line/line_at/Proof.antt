@@ -4,8 +4,8 @@ use Prim.Native.Nat.{ℕ, _-_}
 use mathlib.Core.Path.{sym, ap, _∙_}
 use borrow.Author.Tests.{ltb-true, ltb-false, not-true, not-false}
 use borrow.Author.Needs.{needs}
-use Rattle.lexis.specs.Tokens.{part}
-use Rattle.lexis.specs.Places.{place-from}
+use Rattle.tokens.specs.Tokens.{part}
+use Rattle.tokens.specs.Places.{place-from}
 use Rattle.report.proofs.LineList.{end-inside, line-none}
 use Rattle.report.proofs.line.line_at.Statement.{statement}
 use Rattle.report.proofs.line.line_at.Tie as tie

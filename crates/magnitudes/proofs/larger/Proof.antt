@@ -1,0 +1,56 @@
+-- `larger` meets its contract. The invariant: the codes before place i are no larger. The measure is how many are left. Assumes nothing.
+use Prim.Native.Nat.{_-_}
+use lib.ListN.{length}
+use Rattle.magnitudes.proofs.Facts.{Larger, larger-none, larger-one, larger-all}
+use borrow.Author.Needs.{needs}
+use Rattle.magnitudes.proofs.larger.Statement.{statement}
+use Rattle.magnitudes.proofs.larger.Tie as tie
+
+abbrev Inv-loop : tie.InvT-loop
+Inv-loop codes most largest₀ i₀ largest i = Larger codes most i largest
+
+abbrev μ-loop : tie.MeasureT-loop
+μ-loop codes most largest₀ i₀ largest i = length codes - i
+
+loop-holds : tie.Need-loop-holds Inv-loop μ-loop
+loop-holds c = let a = c .before .args in larger-none (a .codes .now) (a .most) (c .before .pre)
+
+mul-size : tie.Need-mul-size Inv-loop μ-loop
+mul-size c = search needs
+
+shared-slice-read-size : tie.Need-shared-slice-read-size Inv-loop μ-loop
+shared-slice-read-size c = search needs
+
+size-requires : tie.Need-size-requires Inv-loop μ-loop
+size-requires c κs = search needs
+
+max-requires : tie.Need-max-requires Inv-loop μ-loop
+max-requires c κs = search needs
+
+add-i : tie.Need-add-i Inv-loop μ-loop
+add-i c = search needs
+
+loop-less : tie.Need-loop-less Inv-loop μ-loop
+loop-less c = search needs
+
+loop-again : tie.Need-loop-again Inv-loop μ-loop
+loop-again c = let a = c .before .before .before .before .before .before .args in larger-one (a .codes .now) (a .most) (c .before .before .before .before .loop .i) (c .before .before .before .before .loop .largest) (c .before .before .before .loop-test .taken) (c .before .before .before .before .loop .inv) _ (c .before .size .ensures) _ (c .max .ensures)
+
+returns : tie.Need-returns Inv-loop μ-loop
+returns c = let a = c .before .before .before .args in larger-all (a .codes .now) (a .most) (c .before .loop .i) (c .before .loop .largest) (c .loop-test .left) (c .before .loop .inv)
+
+pub larger-spec : {M : Type 1} → statement M
+larger-spec =
+    tie.close
+    (tie.spec
+    Inv-loop
+    μ-loop
+    loop-holds
+    mul-size
+    shared-slice-read-size
+    size-requires
+    max-requires
+    add-i
+    loop-less
+    loop-again
+    returns)

@@ -1,0 +1,37 @@
+-- `to_dot` meets its contract: the first token stands before the end of the first dot. Assumes nothing.
+use native.Mathlib.Omega.{arith}
+use mathlib.Core.Path.{sym as inv, ap, _∙_}
+use Rattle.rule_places.specs.Sentences.{between}
+use Rattle.rule_places.proofs.Dots.{no-token, start-before, first-to-dot}
+use borrow.Author.Needs.{needs}
+use Rattle.rule_places.proofs.to_dot.Statement.{statement}
+use Rattle.rule_places.proofs.to_dot.Tie as tie
+
+token-at-requires : tie.Need-token-at-requires
+token-at-requires c κs = search needs
+
+returns : tie.Need-returns
+returns c = inv (no-token (c .before .before .before .before .before .args .ground) (c .before .before .before .before .before .args .text .now) (c .before .before .before .before .before .args .at) _ (c .before .before .before .token-at .ensures) (c .if1 .taken))
+
+dot-end-requires : tie.Need-dot-end-requires
+dot-end-requires c κs = search needs
+
+sub-place-from : tie.Need-sub-place-from
+sub-place-from c =
+    let end = c .before in
+    let if1 = end .before in
+    let token = if1 .before .before .before in
+    let a = token .before .before .args in
+    let before = start-before (a .ground) (a .text .now) (a .at) _ (token .token-at .ensures) (if1 .if1 .left) in
+    omega (arith, end .dot-end .ensures)
+
+returns-2 : tie.Need-returns-2
+returns-2 c =
+    let end = c .before .before in
+    let if1 = end .before in
+    let token = if1 .before .before .before in
+    let a = token .before .before .args in
+    c .place-from .ensures ∙ ap (between (token .token-at .result .place .start)) (end .dot-end .ensures) ∙ inv (first-to-dot (a .ground) (a .text .now) (a .at) _ (token .token-at .ensures) (if1 .if1 .left))
+
+pub to-dot-spec : {M : Type 1} → statement M
+to-dot-spec = tie.close (tie.spec token-at-requires returns dot-end-requires sub-place-from (λ c κs. search needs) returns-2)

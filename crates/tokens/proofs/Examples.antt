@@ -1,0 +1,59 @@
+-- Small texts and their tokens, by computation.
+use Prim.Native.Nat.{ℕ}
+use mathlib.Core.Path.{_≡_, refl}
+use mathlib.Core.Bool.{Bool, true, false}
+use mathlib.Core.List.{List, [], _∷_}
+use Rattle.tokens.specs.declared.kind.Kind.the-variants.{Name, Not, Variable, Anonymous, Number, If, Minus, Times, Unequal, AlsoUnequal, AtMost, AtLeast, Stray}
+use Rattle.tokens.specs.declared.Token.{Token}
+use Rattle.tokens.specs.Class.{classOf}
+use Rattle.tokens.specs.Run.{isBlank, prefixLen}
+use Rattle.tokens.specs.Gap.{startsComment, gap}
+use Rattle.tokens.specs.Spelling.{singleKind, pairKind, nameKind}
+use Rattle.tokens.specs.Token.{placed, markAt, tokenAt, nextToken}
+use Rattle.tokens.specs.Tokens.{tokensUpTo, tokensFrom}
+
+-- a text, whether it is a program or a facts line, and its tokens
+record Example : Type 0 where
+  program : Bool
+  text : List ℕ
+  tokens : List Token
+
+abbrev examples : List Example
+examples =
+    -- `007` is three numbers
+    record { program = true; text = 48 ∷ 48 ∷ 55 ∷ []; tokens = placed Number 0 1 ∷ placed Number 1 1 ∷ placed Number 2 1 ∷ [] } ∷
+    -- `1a` is a number and a name
+    record { program = true; text = 49 ∷ 97 ∷ []; tokens = placed Number 0 1 ∷ placed Name 1 1 ∷ [] } ∷
+    -- `__` is two tokens
+    record { program = true; text = 95 ∷ 95 ∷ []; tokens = placed Anonymous 0 1 ∷ placed Anonymous 1 1 ∷ [] } ∷
+    -- `X_` is a variable
+    record { program = true; text = 88 ∷ 95 ∷ []; tokens = placed Variable 0 2 ∷ [] } ∷
+    -- `not nota`
+    record { program = true; text = 110 ∷ 111 ∷ 116 ∷ 32 ∷ 110 ∷ 111 ∷ 116 ∷ 97 ∷ []; tokens = placed Not 0 3 ∷ placed Name 4 4 ∷ [] } ∷
+    -- `:~`: the `:` is stray, and so is the `~`
+    record { program = true; text = 58 ∷ 126 ∷ []; tokens = placed Stray 0 1 ∷ placed Stray 1 1 ∷ [] } ∷
+    -- `a!`: the `!` is stray
+    record { program = true; text = 97 ∷ 33 ∷ []; tokens = placed Name 0 1 ∷ placed Stray 1 1 ∷ [] } ∷
+    -- `<=<>!=>=:-`
+    record { program = true; text = 60 ∷ 61 ∷ 60 ∷ 62 ∷ 33 ∷ 61 ∷ 62 ∷ 61 ∷ 58 ∷ 45 ∷ []; tokens = placed AtMost 0 2 ∷ placed AlsoUnequal 2 2 ∷ placed Unequal 4 2 ∷ placed AtLeast 6 2 ∷ placed If 8 2 ∷ [] } ∷
+    -- `:--1` is `:-`, `-` and `1`
+    record { program = true; text = 58 ∷ 45 ∷ 45 ∷ 49 ∷ []; tokens = placed If 0 2 ∷ placed Minus 2 1 ∷ placed Number 3 1 ∷ [] } ∷
+    -- a comment ends with its line, and another with the text
+    record { program = true; text = 97 ∷ 37 ∷ 98 ∷ 10 ∷ 99 ∷ 37 ∷ []; tokens = placed Name 0 1 ∷ placed Name 4 1 ∷ [] } ∷
+    -- `%*` is no comment, and `%%*` is one
+    record { program = true; text = 37 ∷ 42 ∷ 10 ∷ 37 ∷ 37 ∷ 42 ∷ []; tokens = placed Stray 0 1 ∷ placed Times 1 1 ∷ [] } ∷
+    -- on a facts line `%` is stray
+    record { program = false; text = 97 ∷ 37 ∷ 98 ∷ []; tokens = placed Name 0 1 ∷ placed Stray 1 1 ∷ placed Name 2 1 ∷ [] } ∷
+    -- and so is a newline, which is a blank in a program; space and tab are blanks on both
+    record { program = false; text = 97 ∷ 10 ∷ 98 ∷ []; tokens = placed Name 0 1 ∷ placed Stray 1 1 ∷ placed Name 2 1 ∷ [] } ∷
+    record { program = true; text = 97 ∷ 10 ∷ 98 ∷ []; tokens = placed Name 0 1 ∷ placed Name 2 1 ∷ [] } ∷
+    record { program = false; text = 32 ∷ 97 ∷ 9 ∷ 98 ∷ []; tokens = placed Name 1 1 ∷ placed Name 3 1 ∷ [] } ∷
+    []
+
+abbrev Right : List Example → Type 0
+Right [] = Unit {0}
+Right (x ∷ xs) = (tokensFrom (x .program) (x .text) 0 ≡ x .tokens) × Right xs
+
+pub right : Right examples
+unfolding classOf isBlank prefixLen startsComment gap singleKind pairKind nameKind markAt tokenAt nextToken tokensUpTo tokensFrom
+right = (refl, (refl, (refl, (refl, (refl, (refl, (refl, (refl, (refl, (refl, (refl, (refl, (refl, (refl, (refl, tt)))))))))))))))

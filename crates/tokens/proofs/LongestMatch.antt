@@ -1,0 +1,181 @@
+-- The token at a place is the longest match there, and the longest match is one.
+use Prim.Native.Nat.{ℕ, zero, suc, _≤_, _<_}
+use native.Mathlib.Nat.{le-antisymm}
+use native.Mathlib.Omega.{arith}
+use mathlib.Core.Path.{_≡_, refl, sym, ap, _∙_}
+use mathlib.Core.Bool.{Bool, true, false, cond, _&&_, and-false, true≢false}
+use mathlib.Core.List.{List, [], _∷_}
+use lib.Dec.{eqb, ltb}
+use lib.ListN.{length, getD, take}
+use lib.Seq.{length-take-le, getD-take}
+use borrow.Author.Tests.{eqb-true, ltb-true, ltb-false}
+use Rattle.tokens.specs.declared.class.Class.{Class}
+use Rattle.tokens.specs.declared.class.Class.the-variants.{Lower, Upper, Digit, Underscore, Other}
+use Rattle.tokens.specs.declared.run.Run.the-variants.{Word, Digits}
+use Rattle.tokens.specs.declared.kind.Kind.{Kind}
+use Rattle.tokens.specs.declared.kind.Kind.the-variants.{Name, Not, Variable, Anonymous, Number, Stray}
+use Rattle.tokens.specs.Class.{classOf}
+use Rattle.tokens.specs.Run.{goesOn, prefixLen}
+use Rattle.tokens.specs.Kind.{isStray}
+use Rattle.tokens.specs.Spelling.{singleKind, pairKind, markKind, nameKind, every, numberKind, anonymousKind, kindFrom, kindOf}
+use Rattle.tokens.specs.Longest.{Longest}
+use Rattle.tokens.specs.Token.{markAt, startAt}
+use Rattle.tokens.proofs.Every.{prefix-inside, every-prefix, not-every-beyond, not-every-longer}
+use Rattle.tokens.proofs.KindNumber.{is-stray}
+
+-- ---- each class of a first byte
+
+-- the longest match, by what stands behind the first byte
+from-class : (b : ℕ) (rest : List ℕ) (class : Class) → classOf b ≡ class → (kind : Kind) (m : ℕ) → m ≤ length rest → kindFrom class b (take m rest) ≡ kind
+    → ((n : ℕ) → m < n → n ≤ length rest → kindFrom class b (take n rest) ≡ Stray) → (isStray kind ≡ true → m ≡ 0) → Longest (b ∷ rest) kind (suc m)
+unfolding kindOf
+from-class b rest class e kind m h spelled beyond stray =
+    record {
+      not-empty = omega arith;
+      inside = omega arith;
+      spelled = rw e spelled;
+      longest = longer;
+      stray = λ q. ap suc (stray (ap isStray q));
+    }
+  where
+    longer : (n : ℕ) → suc m < n → n ≤ suc (length rest) → kindOf (take n (b ∷ rest)) ≡ Stray
+    longer zero l k = absurd (let z : ⊥ = omega arith in z)
+    longer (suc n) l k = rw e (beyond n (omega arith) (omega arith))
+
+name-not-stray : (len a b c : ℕ) → isStray (nameKind len a b c) ≡ false
+unfolding nameKind
+name-not-stray len a b c = go (eqb len 3 && (eqb a 110 && (eqb b 111 && eqb c 116)))
+  where
+    go : (t : Bool) → isStray (cond t Not Name) ≡ false
+    go true = refl
+    go false = refl
+
+-- a name's kind looks at its own bytes alone
+name-within : (n b : ℕ) (rest : List ℕ) → nameKind (suc n) b (getD (take n rest) 0 0) (getD (take n rest) 1 0) ≡ nameKind (suc n) b (getD rest 0 0) (getD rest 1 0)
+unfolding nameKind
+name-within n b rest = go (eqb (suc n) 3) refl
+  where
+    go : (t : Bool) → eqb (suc n) 3 ≡ t → nameKind (suc n) b (getD (take n rest) 0 0) (getD (take n rest) 1 0) ≡ nameKind (suc n) b (getD rest 0 0) (getD rest 1 0)
+    go true e =
+        let two : suc n ≡ 3 = eqb-true (suc n) 3 e in
+        rw (getD-take n rest 0 0 (omega arith), getD-take n rest 1 0 (omega arith))
+    go false e = rw e
+
+-- what is a token as one byte alone
+alone : (f : List ℕ → Kind) → ((c : ℕ) (r : List ℕ) → f (c ∷ r) ≡ Stray) → (rest : List ℕ) (n : ℕ) → 0 < n → n ≤ length rest → f (take n rest) ≡ Stray
+alone f h [] n l k = absurd (let z : ⊥ = omega arith in z)
+alone f h (c ∷ r) zero l k = absurd (let z : ⊥ = omega arith in z)
+alone f h (c ∷ r) (suc n) l k = h c (take n r)
+
+pair-at-end : (b : ℕ) → pairKind b 0 ≡ Stray
+unfolding pairKind
+pair-at-end b = simp and-false
+
+-- three bytes are no mark
+mark-beyond : (b c : ℕ) (r : List ℕ) (n : ℕ) → 1 < n → n ≤ length (c ∷ r) → markKind b (take n (c ∷ r)) ≡ Stray
+mark-beyond b c [] n l k = absurd (let z : ⊥ = omega arith in z)
+mark-beyond b c (d ∷ r) zero l k = absurd (let z : ⊥ = omega arith in z)
+mark-beyond b c (d ∷ r) (suc zero) l k = absurd (let z : ⊥ = omega arith in z)
+mark-beyond b c (d ∷ r) (suc (suc n)) l k = refl
+
+mark-longest : (at b : ℕ) (rest : List ℕ) → classOf b ≡ Other → Longest (b ∷ rest) (markAt at b (getD rest 0 0) .kind) (markAt at b (getD rest 0 0) .place .len)
+unfolding markAt
+mark-longest at b [] e =
+    rw (pair-at-end b)
+    (from-class b [] Other e (singleKind b) 0 (omega arith) refl (λ n l k. absurd (let z : ⊥ = omega arith in z)) (λ q. refl))
+mark-longest at b (c ∷ r) e = go (isStray (pairKind b c)) refl
+  where
+    one : isStray (pairKind b c) ≡ true → (n : ℕ) → 0 < n → n ≤ length (c ∷ r) → markKind b (take n (c ∷ r)) ≡ Stray
+    one q zero l k = absurd (let z : ⊥ = omega arith in z)
+    one q (suc zero) l k = is-stray (pairKind b c) q
+    one q (suc (suc n)) l k = mark-beyond b c r (suc (suc n)) (omega arith) k
+
+    go : (t : Bool) → isStray (pairKind b c) ≡ t → Longest (b ∷ c ∷ r) (markAt at b c .kind) (markAt at b c .place .len)
+    go true q = rw q (from-class b (c ∷ r) Other e (singleKind b) 0 (omega arith) refl (one q) (λ s. refl))
+    go false q = rw q (from-class b (c ∷ r) Other e (pairKind b c) 1 (omega arith) refl (mark-beyond b c r) (λ s. absurd (true≢false (sym s ∙ q))))
+
+pub start-longest : (at b : ℕ) (rest : List ℕ) (class : Class) → classOf b ≡ class → Longest (b ∷ rest) (startAt at class b rest .kind) (startAt at class b rest .place .len)
+start-longest at b rest Lower e =
+    let n = prefixLen (goesOn Word) rest in
+    let len : length (take n rest) ≡ n = length-take-le n rest (prefix-inside (goesOn Word) rest) in
+    let named : kindFrom Lower b (take n rest) ≡ nameKind (suc n) b (getD rest 0 0) (getD rest 1 0) = rw (every-prefix (goesOn Word) rest, len) (name-within n b rest) in
+    from-class b rest Lower e _ n (prefix-inside (goesOn Word) rest) named
+    (λ m l k. rw (not-every-beyond (goesOn Word) rest m l k))
+    (λ s. absurd (true≢false (sym s ∙ name-not-stray (suc n) b (getD rest 0 0) (getD rest 1 0))))
+start-longest at b rest Upper e =
+    from-class b rest Upper e _ (prefixLen (goesOn Word) rest) (prefix-inside (goesOn Word) rest) (rw (every-prefix (goesOn Word) rest))
+    (λ m l k. rw (not-every-beyond (goesOn Word) rest m l k))
+    (λ s. absurd (true≢false (sym s)))
+start-longest at b rest Digit e = go (eqb b 48) refl
+  where
+    go : (t : Bool) → eqb b 48 ≡ t → Longest (b ∷ rest) Number (cond (eqb b 48) 1 (suc (prefixLen (goesOn Digits) rest)))
+    go true q =
+        rw q
+        (from-class b rest Digit e Number 0 (omega arith) (rw q) (λ m l k. rw q (alone (numberKind true) (λ c r. refl) rest m l k)) (λ s. refl))
+    go false q =
+        rw q
+        (from-class b rest Digit e Number (prefixLen (goesOn Digits) rest) (prefix-inside (goesOn Digits) rest) (rw (q, every-prefix (goesOn Digits) rest))
+        (λ m l k. rw (q, not-every-beyond (goesOn Digits) rest m l k))
+        (λ s. absurd (true≢false (sym s))))
+start-longest at b rest Underscore e = from-class b rest Underscore e Anonymous 0 (omega arith) refl (alone anonymousKind (λ c r. refl) rest) (λ s. refl)
+start-longest at b rest Other e = mark-longest at b rest e
+
+-- ---- there is one longest match
+
+not-shorter : (text : List ℕ) (k l : Kind) (m n : ℕ) → Longest text k m → Longest text l n → m < n → ⊥
+not-shorter text k l m n a b h =
+    let one : n ≡ 1 = b .stray (sym (b .spelled) ∙ a .longest n h (b .inside)) in
+    omega (arith, a .not-empty)
+
+pub longest-unique : (text : List ℕ) (k l : Kind) (m n : ℕ) → Longest text k m → Longest text l n → (k ≡ l) × (m ≡ n)
+longest-unique text k l m n a b = (sym (a .spelled) ∙ ap (λ (i : ℕ). kindOf (take i text)) same ∙ b .spelled, same)
+  where
+    no-less : (i j : ℕ) → (i < j → ⊥) → j ≤ i
+    no-less i j h = go (ltb i j) refl
+      where
+        go : (t : Bool) → ltb i j ≡ t → j ≤ i
+        go true e = absurd (h (ltb-true i j e))
+        go false e = ltb-false i j e
+
+    same : m ≡ n
+    same = le-antisymm (no-less n m (not-shorter text l k n m b a)) (no-less m n (not-shorter text k l m n a b))
+
+-- ---- it is enough that one byte more is no token
+
+no-word : (t : Bool) (kind : Kind) → isStray kind ≡ false → cond t kind Stray ≡ Stray → t ≡ false
+no-word true kind h e = absurd (true≢false (sym (ap isStray e) ∙ h))
+no-word false kind h e = refl
+
+-- if one byte more is no token, no more bytes are
+beyond-next : (class : Class) (b : ℕ) (rest : List ℕ) (m : ℕ) → kindFrom class b (take (suc m) rest) ≡ Stray → (n : ℕ) → m < n → n ≤ length rest → kindFrom class b (take n rest) ≡ Stray
+beyond-next Lower b rest m e n l k =
+    let f = no-word (every (goesOn Word) (take (suc m) rest)) _ (name-not-stray (suc (length (take (suc m) rest))) b (getD (take (suc m) rest) 0 0) (getD (take (suc m) rest) 1 0)) e in
+    rw (not-every-longer (goesOn Word) rest (suc m) n f (omega arith))
+beyond-next Upper b rest m e n l k =
+    let f = no-word (every (goesOn Word) (take (suc m) rest)) Variable refl e in
+    rw (not-every-longer (goesOn Word) rest (suc m) n f (omega arith))
+beyond-next Digit b rest m e n l k = go (eqb b 48) e
+  where
+    go : (t : Bool) → numberKind t (take (suc m) rest) ≡ Stray → numberKind t (take n rest) ≡ Stray
+    go true q = alone (numberKind true) (λ c r. refl) rest n (omega arith) k
+    go false q =
+        let f = no-word (every (goesOn Digits) (take (suc m) rest)) Number refl q in
+        rw (not-every-longer (goesOn Digits) rest (suc m) n f (omega arith))
+beyond-next Underscore b rest m e n l k = alone anonymousKind (λ c r. refl) rest n (omega arith) k
+beyond-next Other b [] m e n l k = absurd (let z : ⊥ = omega arith in z)
+beyond-next Other b (c ∷ r) m e zero l k = absurd (let z : ⊥ = omega arith in z)
+beyond-next Other b (c ∷ r) m e (suc zero) l k = let z : m ≡ 0 = omega arith in rw z at e
+beyond-next Other b (c ∷ r) m e (suc (suc n)) l k = mark-beyond b c r (suc (suc n)) (omega arith) k
+
+pub longest-by-next : (text : List ℕ) (kind : Kind) (len : ℕ) → isStray kind ≡ false → len ≤ length text → kindOf (take len text) ≡ kind → (len < length text → kindOf (take (suc len) text) ≡ Stray) → Longest text kind len
+unfolding kindOf
+longest-by-next [] kind len h i s m = absurd (true≢false (ap isStray (sym (empty len) ∙ s) ∙ h))
+  where
+    empty : (n : ℕ) → kindOf (take n []) ≡ Stray
+    empty zero = refl
+    empty (suc n) = refl
+longest-by-next (b ∷ rest) kind zero h i s m = absurd (true≢false (ap isStray s ∙ h))
+longest-by-next (b ∷ rest) kind (suc len) h i s m =
+    from-class b rest (classOf b) refl kind len (omega arith) s
+    (λ n l k. beyond-next (classOf b) b rest len (m (omega arith)) n l k)
+    (λ q. absurd (true≢false (sym q ∙ h)))

@@ -1,0 +1,66 @@
+-- `gap::gap_end` meets its contract. The invariant: what is left of the gap from here, added to here, is where the gap ends.
+-- The measure is what is left of the text: a comment has a byte. Assumes nothing.
+use Prim.Native.Nat.{_+_, _-_}
+use native.Mathlib.Omega.{arith}
+use mathlib.Core.Path.{_≡_, refl, sym, _∙_}
+use mathlib.Core.Bool.{true, false}
+use lib.ListN.{length, drop}
+use borrow.Author.Tests.{not-true, not-false}
+use borrow.Author.Needs.{needs}
+use Rattle.tokens.specs.Gap.{gap}
+use Rattle.tokens.proofs.Gaps.{gap-stop, gap-comment, comment-inside}
+use Rattle.tokens.proofs.gap.gap_end.Statement.{statement}
+use Rattle.tokens.proofs.gap.gap_end.Tie as tie
+
+abbrev Inv-loop : tie.InvT-loop
+Inv-loop text at program end₀ end = at + gap true (drop at text) ≡ end + gap true (drop end text)
+
+abbrev μ-loop : tie.MeasureT-loop
+μ-loop text at program end₀ end = length text - end
+
+run-end-requires : tie.Need-run-end-requires Inv-loop μ-loop
+run-end-requires c κs = search needs
+
+returns : tie.Need-returns Inv-loop μ-loop
+returns c = rw (not-true (c .before .before .before .args .program) (c .before .if1 .taken)) (gap-stop false _ _ _ (c .run-end .ensures) refl)
+
+loop-holds : tie.Need-loop-holds Inv-loop μ-loop
+loop-holds c = refl
+
+run-end-requires-2 : tie.Need-run-end-requires-2 Inv-loop μ-loop
+run-end-requires-2 c κs = search needs
+
+starts-comment-requires : tie.Need-starts-comment-requires Inv-loop μ-loop
+starts-comment-requires c κs = search needs
+
+returns-2 : tie.Need-returns-2 Inv-loop μ-loop
+returns-2 c =
+    rw (not-false (c .before .before .before .before .before .before .args .program) (c .before .before .before .before .if1 .left))
+    (gap-stop true _ _ _ (c .before .before .run-end2 .ensures) (sym (c .before .starts-comment .ensures) ∙ not-true _ (c .if2 .taken)) ∙ sym (c .before .before .before .loop .inv))
+
+run-end-requires-3 : tie.Need-run-end-requires-3 Inv-loop μ-loop
+run-end-requires-3 c κs = search needs
+
+loop-less : tie.Need-loop-less Inv-loop μ-loop
+loop-less c =
+    let i = comment-inside true (c .before .before .before .before .before .before .before .args .text .now) _ _ (c .before .before .before .run-end2 .ensures) (sym (c .before .before .starts-comment .ensures) ∙ not-false _ (c .before .if2 .left)) _ (c .run-end3 .ensures) in
+    omega arith
+
+loop-again : tie.Need-loop-again Inv-loop μ-loop
+loop-again c = c .before .before .before .before .loop .inv ∙ gap-comment true _ _ _ (c .before .before .before .run-end2 .ensures) (sym (c .before .before .starts-comment .ensures) ∙ not-false _ (c .before .if2 .left)) _ (c .run-end3 .ensures)
+
+pub gap-end-spec : {M : Type 1} → statement M
+gap-end-spec =
+    tie.close
+    (tie.spec
+    Inv-loop
+    μ-loop
+    run-end-requires
+    returns
+    loop-holds
+    run-end-requires-2
+    starts-comment-requires
+    returns-2
+    run-end-requires-3
+    loop-less
+    loop-again)

@@ -1,0 +1,51 @@
+// The class of a byte.
+ghost use mathlib.Core.Path.{_≡_};
+ghost use Rattle.tokens.specs.Class.{classOf, isWord, isDigit};
+
+// What a byte is by its value.
+pub enum Class {
+    Lower,
+    Upper,
+    Digit,
+    Underscore,
+    Other,
+}
+
+// The class of a byte: ranges for letters and digits, the underscore, and one answer for every other byte.
+pub fn class_of(byte: u8) -> Class
+    ensures { λ r. ⌜ r ≡ classOf byte ⌝ }
+{
+    match byte {
+        b'a'..=b'z' => Class::Lower,
+        b'A'..=b'Z' => Class::Upper,
+        b'0'..=b'9' => Class::Digit,
+        b'_' => Class::Underscore,
+        _ => Class::Other,
+    }
+}
+
+// Does a byte of the class go on a name or a variable?
+pub(crate) fn is_word(class: Class) -> bool
+    ensures { λ r. ⌜ r ≡ isWord class ⌝ }
+{
+    match class {
+        Class::Lower => true,
+        Class::Upper => true,
+        Class::Digit => true,
+        Class::Underscore => true,
+        Class::Other => false,
+    }
+}
+
+// Is a byte of the class a digit?
+pub(crate) fn is_digit(class: Class) -> bool
+    ensures { λ r. ⌜ r ≡ isDigit class ⌝ }
+{
+    match class {
+        Class::Lower => false,
+        Class::Upper => false,
+        Class::Digit => true,
+        Class::Underscore => false,
+        Class::Other => false,
+    }
+}

@@ -1,0 +1,49 @@
+// The bytes that a place names, whether two names are the same, and the lesser of two counts.
+ghost use Prim.Native.Nat.{min};
+ghost use mathlib.Core.Path.{_≡_};
+ghost use Rattle.tokens.specs.Tokens.{part};
+ghost use Rattle.meaning.specs.Values.{same-bytes};
+use crate::Place;
+
+// The bytes of a place; of a place that reaches past the text, those that are there.
+pub fn part(text: &[u8], place: Place) -> &[u8]
+    ensures { λ r. ⌜ now r ≡ part (now (text .entry)) place ⌝ }
+{
+    let length = text.len();
+    let start = place.start;
+    if length <= start {
+        return &text[length..];
+    }
+    if length - start <= place.len {
+        return &text[start..];
+    }
+    let end = start + place.len;
+    &text[start..end]
+}
+
+// Are the bytes the same?
+pub fn same_bytes(a: &[u8], b: &[u8]) -> bool
+    ensures { λ r. ⌜ r ≡ same-bytes (now (a .entry)) (now (b .entry)) ⌝ }
+{
+    let mut i = 0;
+    while i < a.len() {
+        if b.len() <= i {
+            return false;
+        }
+        if a[i] != b[i] {
+            return false;
+        }
+        i += 1;
+    }
+    b.len() == i
+}
+
+// The lesser of two counts: how many things there are, or for how many there is room.
+pub fn least(count: usize, most: usize) -> usize
+    ensures { λ r. ⌜ r ≡ min count most ⌝ }
+{
+    if count < most {
+        return count;
+    }
+    most
+}
