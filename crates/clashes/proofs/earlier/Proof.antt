@@ -22,39 +22,6 @@ Inv-loop facts links opposed k predicate arity at c j₀ j = (count : ℕ) → F
 abbrev μ-loop : tie.MeasureT-loop
 μ-loop facts links opposed k predicate arity at c j₀ j = k - j
 
-mul-predicate : tie.Need-mul-predicate Inv-loop μ-loop
-mul-predicate c = search needs
-
-mul-predicate-2 : tie.Need-mul-predicate-2 Inv-loop μ-loop
-mul-predicate-2 c = search needs
-
-shared-slice-read-predicate : tie.Need-shared-slice-read-predicate Inv-loop μ-loop
-shared-slice-read-predicate c = search needs
-
-mul-at : tie.Need-mul-at Inv-loop μ-loop
-mul-at c = search needs
-
-add-at : tie.Need-add-at Inv-loop μ-loop
-add-at c = search needs
-
-add-row-chain : tie.Need-add-row-chain Inv-loop μ-loop
-add-row-chain c = search needs
-
-mul-row-chain : tie.Need-mul-row-chain Inv-loop μ-loop
-mul-row-chain c = search needs
-
-sub-row-chain : tie.Need-sub-row-chain Inv-loop μ-loop
-sub-row-chain c = search needs
-
-part-row-chain-start : tie.Need-part-row-chain-start Inv-loop μ-loop
-part-row-chain-start c = search needs
-
-part-row-chain-end : tie.Need-part-row-chain-end Inv-loop μ-loop
-part-row-chain-end c = search needs
-
-row-chain-requires : tie.Need-row-chain-requires Inv-loop μ-loop
-row-chain-requires c κs = search needs
-
 first-requires : tie.Need-first-requires Inv-loop μ-loop
 first-requires c κs = (rw (c .row-chain .ensures) (row-below _ _), c .before .before .before .before .before .pre .2 .long)
 
@@ -96,17 +63,17 @@ earlier-spec =
     (tie.spec
     Inv-loop
     μ-loop
-    mul-predicate
-    mul-predicate-2
-    shared-slice-read-predicate
-    mul-at
-    add-at
-    add-row-chain
-    mul-row-chain
-    sub-row-chain
-    part-row-chain-start
-    part-row-chain-end
-    row-chain-requires
+    (λ c. search needs)
+    (λ c. search needs)
+    (λ c. search needs)
+    (λ c. search needs)
+    (λ c. search needs)
+    (λ c. search needs)
+    (λ c. search needs)
+    (λ c. search needs)
+    (λ c. search needs)
+    (λ c. search needs)
+    (λ c κs. search needs)
     first-requires
     loop-holds
     alike-requires

@@ -26,12 +26,6 @@ clash-requires c κs = (c .before .before .before .before .args .count, c .befor
 returns : tie.Need-returns Inv-loop μ-loop
 returns c = λ names. record { before = c .before .before .before .loop .inv .1 names; here = λ n. (c .before .before .loop-test .taken, c .before .clash .ensures names); nowhere = λ e. absurd (c .if1 .taken e) }
 
-add-fact : tie.Need-add-fact Inv-loop μ-loop
-add-fact c = search needs
-
-loop-less : tie.Need-loop-less Inv-loop μ-loop
-loop-less c = search needs
-
 loop-again : tie.Need-loop-again Inv-loop μ-loop
 loop-again c = (omega arith, λ names. clear-more names (c .before .before .before .before .before .before .args .facts .now) (c .before .before .before .loop .fact) _ (c .if1 .left) (c .before .clash .ensures names) (c .before .before .before .loop .inv .1 names) _ (add-one (c .before .before .before .loop .fact)))
 
@@ -47,7 +41,7 @@ first-clash-spec =
     loop-holds
     clash-requires
     returns
-    add-fact
-    loop-less
+    (λ c. search needs)
+    (λ c. search needs)
     loop-again
     returns-2)

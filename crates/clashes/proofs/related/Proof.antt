@@ -4,9 +4,6 @@ use borrow.Author.Needs.{needs}
 use Rattle.clashes.proofs.related.Statement.{statement}
 use Rattle.clashes.proofs.related.Tie as tie
 
-differ-in-sign-requires : tie.Need-differ-in-sign-requires
-differ-in-sign-requires c κs = search needs
-
 returns : tie.Need-returns
 unfolding related
 returns c = rw (c .before .if1 .taken) (c .differ-in-sign .ensures)
@@ -16,4 +13,4 @@ unfolding related
 returns-2 c = rw (c .if1 .left)
 
 pub related-spec : {M : Type 1} → statement M
-related-spec = tie.close (tie.spec differ-in-sign-requires returns returns-2)
+related-spec = tie.close (tie.spec (λ c κs. search needs) returns returns-2)

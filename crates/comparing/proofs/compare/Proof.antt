@@ -5,23 +5,11 @@ use borrow.Author.Needs.{needs}
 use Rattle.comparing.proofs.compare.Statement.{statement}
 use Rattle.comparing.proofs.compare.Tie as tie
 
-is-number-requires : tie.Need-is-number-requires
-is-number-requires c κs = search needs
-
-is-number-requires-2 : tie.Need-is-number-requires-2
-is-number-requires-2 c κs = search needs
-
-compare-numbers-requires : tie.Need-compare-numbers-requires
-compare-numbers-requires c κs = search needs
-
 returns : tie.Need-returns
 returns c = λ names k. c .compare-numbers .ensures ∙ sym (compared-numbers _ names _ _ (sym (c .before .before .before .before .is-number .ensures) ∙ c .before .before .before .if1 .taken) (sym (c .before .before .is-number2 .ensures) ∙ c .before .if2 .taken))
 
 returns-2 : tie.Need-returns-2
 returns-2 c = λ names k. sym (number-and-name _ names _ _ (sym (c .before .before .before .is-number .ensures) ∙ c .before .before .if1 .taken) (sym (c .before .is-number2 .ensures) ∙ c .if2 .left))
-
-is-number-requires-3 : tie.Need-is-number-requires-3
-is-number-requires-3 c κs = search needs
 
 returns-3 : tie.Need-returns-3
 returns-3 c = λ names k. sym (name-and-number _ names _ _ (sym (c .before .before .before .is-number .ensures) ∙ c .before .before .if1 .left) (sym (c .before .is-number3 .ensures) ∙ c .if3 .taken))
@@ -29,19 +17,16 @@ returns-3 c = λ names k. sym (name-and-number _ names _ _ (sym (c .before .befo
 compare-names-requires : tie.Need-compare-names-requires
 compare-names-requires c κs = let p = c .before .before .before .before .before .pre in (p .0, p .1, sym (c .before .before .before .is-number .ensures) ∙ c .before .before .if1 .left, sym (c .before .is-number3 .ensures) ∙ c .if3 .left)
 
-returns-4 : tie.Need-returns-4
-returns-4 c = search needs
-
 pub compare-spec : {M : Type 1} → statement M
 compare-spec =
     tie.close
     (tie.spec
-    is-number-requires
-    is-number-requires-2
-    compare-numbers-requires
+    (λ c κs. search needs)
+    (λ c κs. search needs)
+    (λ c κs. search needs)
     returns
     returns-2
-    is-number-requires-3
+    (λ c κs. search needs)
     returns-3
     compare-names-requires
-    returns-4)
+    (λ c. search needs))

@@ -7,20 +7,11 @@ use borrow.Author.Needs.{needs}
 use Rattle.comparing.proofs.compare_names.Statement.{statement}
 use Rattle.comparing.proofs.compare_names.Tie as tie
 
-stands-for-name-requires : tie.Need-stands-for-name-requires
-stands-for-name-requires c κs = search needs
-
 returns : tie.Need-returns
 returns c = λ names k. let p = c .before .before .before .pre in first-unknown k (p .0) (p .1) (p .2) (p .3) (sym (c .before .stands-for-name .ensures) ∙ not-true _ (c .if1 .taken))
 
-stands-for-name-requires-2 : tie.Need-stands-for-name-requires-2
-stands-for-name-requires-2 c κs = search needs
-
 returns-2 : tie.Need-returns-2
 returns-2 c = λ names k. let p = c .before .before .before .before .before .pre in second-unknown k (p .0) (p .1) (p .2) (p .3) (sym (c .before .stands-for-name2 .ensures) ∙ not-true _ (c .if2 .taken))
-
-compare-numbers-requires : tie.Need-compare-numbers-requires
-compare-numbers-requires c κs = search needs
 
 returns-3 : tie.Need-returns-3
 returns-3 c =
@@ -36,9 +27,6 @@ rank-of-requires c κs = stands-at _ _ (sym (c .before .before .before .before .
 rank-of-requires-2 : tie.Need-rank-of-requires-2
 rank-of-requires-2 c κs = stands-at _ _ (sym (c .before .before .before .stands-for-name2 .ensures) ∙ not-false _ (c .before .before .if2 .left))
 
-compare-numbers-requires-2 : tie.Need-compare-numbers-requires-2
-compare-numbers-requires-2 c κs = search needs
-
 returns-4 : tie.Need-returns-4
 returns-4 c =
     λ names k.
@@ -51,13 +39,13 @@ pub compare-names-spec : {M : Type 1} → statement M
 compare-names-spec =
     tie.close
     (tie.spec
-    stands-for-name-requires
+    (λ c κs. search needs)
     returns
-    stands-for-name-requires-2
+    (λ c κs. search needs)
     returns-2
-    compare-numbers-requires
+    (λ c κs. search needs)
     returns-3
     rank-of-requires
     rank-of-requires-2
-    compare-numbers-requires-2
+    (λ c κs. search needs)
     returns-4)

@@ -28,17 +28,8 @@ mul-place-2 c = omega (arith, c .before .before .before .pre, c .before .before 
 slice-write-place : tie.Need-slice-write-place Inv-loop μ-loop
 slice-write-place c = omega (arith, c .before .before .before .pre, c .before .before .loop .inv .1 .long, c .before .loop-test .taken)
 
-add-i : tie.Need-add-i Inv-loop μ-loop
-add-i c = search needs
-
-loop-less : tie.Need-loop-less Inv-loop μ-loop
-loop-less c = search needs
-
 loop-again : tie.Need-loop-again Inv-loop μ-loop
 loop-again c = let l = c .before .before .loop in (omega (arith, c .before .loop-test .taken), copied-more (c .before .before .before .args .source .now) (c .before .before .before .args .place .now) (l .place) (l .i) (omega (arith, c .before .before .before .pre, l .inv .1 .long, c .before .loop-test .taken)) (l .inv .1))
-
-same-length : tie.Need-same-length Inv-loop μ-loop
-same-length c = search needs
 
 returns : tie.Need-returns Inv-loop μ-loop
 returns c = let l = c .before .loop in copied-all (c .before .before .args .source .now) (c .before .before .args .place .now) (l .place) (l .i) (l .inv .0) (c .loop-test .left) (l .inv .1)
@@ -54,8 +45,8 @@ copy-spec =
     shared-slice-read-place
     mul-place-2
     slice-write-place
-    add-i
-    loop-less
+    (λ c. search needs)
+    (λ c. search needs)
     loop-again
-    same-length
+    (λ c. search needs)
     returns)

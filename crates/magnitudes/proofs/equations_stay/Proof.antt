@@ -19,17 +19,8 @@ abbrev μ-loop : tie.MeasureT-loop
 loop-holds : tie.Need-loop-holds Inv-loop μ-loop
 loop-holds c = let a = c .before .before .before .args in bounding-none (a .literals .now) (a .places .now) (a .bounds .now) (c .before .before .before .pre .2)
 
-mul-l : tie.Need-mul-l Inv-loop μ-loop
-mul-l c = search needs
-
-shared-slice-read-l : tie.Need-shared-slice-read-l Inv-loop μ-loop
-shared-slice-read-l c = search needs
-
 side-bound-requires : tie.Need-side-bound-requires Inv-loop μ-loop
 side-bound-requires c κs = let row = c .before .before .before .before .before .before .before .pre .0 _ (at-member (c .before .before .before .before .before .before .before .args .places .now) (c .before .before .before .loop .i) (search needs)) in (row .inside, omega (arith, c .before .before .before .loop .inv .long, c .before .before .before .before .before .before .before .pre .1), c .before .before .before .loop .inv .modest)
-
-same-length : tie.Need-same-length Inv-loop μ-loop
-same-length c = search needs
 
 returns : tie.Need-returns Inv-loop μ-loop
 returns c = (c .before .before .before .before .before .loop .inv .long, c .before .before .before .before .before .loop .inv .modest, λ z. absurd (false≢true z))
@@ -52,17 +43,8 @@ mul-bounds c = let row = c .before .before .before .before .before .before .befo
 slice-write-bounds : tie.Need-slice-write-bounds Inv-loop μ-loop
 slice-write-bounds c = let row = c .before .before .before .before .before .before .before .before .before .before .pre .0 _ (at-member (c .before .before .before .before .before .before .before .before .before .before .args .places .now) (c .before .before .before .before .before .before .loop .i) (search needs)) in omega (arith, row .left, c .before .before .before .before .before .before .loop .inv .long, c .before .before .before .before .before .before .before .before .before .before .pre .1)
 
-add-i : tie.Need-add-i Inv-loop μ-loop
-add-i c = search needs
-
-loop-less : tie.Need-loop-less Inv-loop μ-loop
-loop-less c = search needs
-
 loop-again : tie.Need-loop-again Inv-loop μ-loop
 loop-again c = let row = c .before .before .before .before .before .before .before .before .before .before .pre .0 _ (at-member (c .before .before .before .before .before .before .before .before .before .before .args .places .now) (c .before .before .before .before .before .before .loop .i) (search needs)) in let a = c .before .before .before .before .before .before .before .before .before .before .args in bounding-one (a .literals .now) (a .places .now) (a .bounds .now) (c .before .before .before .before .before .before .loop .i) (c .before .before .before .before .before .before .loop .bounds) (c .before .before .before .before .before .before .loop .inv) (c .before .before .before .before .before .loop-test .taken) (c .before .before .before .before .before .before .before .before .before .before .pre .1) _ (row .left) (c .before .if1 .left) (c .before .before .side-bound .ensures (c .before .if1 .left))
-
-same-length-2 : tie.Need-same-length-2 Inv-loop μ-loop
-same-length-2 c = search needs
 
 returns-2 : tie.Need-returns-2 Inv-loop μ-loop
 returns-2 c = let a = c .before .before .before .before .before .args in (c .before .loop .inv .long, c .before .loop .inv .modest, λ z. bounding-all (a .literals .now) (a .places .now) (a .bounds .now) (c .before .loop .i) (c .before .loop .bounds) (c .loop-test .left) (c .before .loop .inv))
@@ -74,10 +56,10 @@ equations-stay-spec =
     Inv-loop
     μ-loop
     loop-holds
-    mul-l
-    shared-slice-read-l
+    (λ c. search needs)
+    (λ c. search needs)
     side-bound-requires
-    same-length
+    (λ c. search needs)
     returns
     mul-x
     add-x
@@ -85,8 +67,8 @@ equations-stay-spec =
     shared-slice-read-x
     mul-bounds
     slice-write-bounds
-    add-i
-    loop-less
+    (λ c. search needs)
+    (λ c. search needs)
     loop-again
-    same-length-2
+    (λ c. search needs)
     returns-2)

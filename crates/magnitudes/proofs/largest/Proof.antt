@@ -15,41 +15,8 @@ abbrev μ-loop : tie.MeasureT-loop
 loop-holds : tie.Need-loop-holds Inv-loop μ-loop
 loop-holds c = most-none (c .before .args .facts .now) (c .before .args .count)
 
-mul-arity : tie.Need-mul-arity Inv-loop μ-loop
-mul-arity c = search needs
-
-mul-arity-2 : tie.Need-mul-arity-2 Inv-loop μ-loop
-mul-arity-2 c = search needs
-
-shared-slice-read-arity : tie.Need-shared-slice-read-arity Inv-loop μ-loop
-shared-slice-read-arity c = search needs
-
-mul-from : tie.Need-mul-from Inv-loop μ-loop
-mul-from c = search needs
-
-add-from : tie.Need-add-from Inv-loop μ-loop
-add-from c = search needs
-
-add-larger : tie.Need-add-larger Inv-loop μ-loop
-add-larger c = search needs
-
-mul-larger : tie.Need-mul-larger Inv-loop μ-loop
-mul-larger c = search needs
-
-sub-larger : tie.Need-sub-larger Inv-loop μ-loop
-sub-larger c = search needs
-
-part-larger-start : tie.Need-part-larger-start Inv-loop μ-loop
-part-larger-start c = search needs
-
-part-larger-end : tie.Need-part-larger-end Inv-loop μ-loop
-part-larger-end c = search needs
-
 larger-requires : tie.Need-larger-requires Inv-loop μ-loop
 larger-requires c κs = c .before .before .before .loop .inv .modest
-
-add-k : tie.Need-add-k Inv-loop μ-loop
-add-k c = search needs
 
 loop-less : tie.Need-loop-less Inv-loop μ-loop
 loop-less c = omega (arith, c .before .before .before .loop-test .taken)
@@ -67,18 +34,18 @@ largest-spec =
     Inv-loop
     μ-loop
     loop-holds
-    mul-arity
-    mul-arity-2
-    shared-slice-read-arity
-    mul-from
-    add-from
-    add-larger
-    mul-larger
-    sub-larger
-    part-larger-start
-    part-larger-end
+    (λ c. search needs)
+    (λ c. search needs)
+    (λ c. search needs)
+    (λ c. search needs)
+    (λ c. search needs)
+    (λ c. search needs)
+    (λ c. search needs)
+    (λ c. search needs)
+    (λ c. search needs)
+    (λ c. search needs)
     larger-requires
-    add-k
+    (λ c. search needs)
     loop-less
     loop-again
     returns)

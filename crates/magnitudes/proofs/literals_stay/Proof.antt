@@ -24,12 +24,6 @@ literal-stays-requires c κs = (c .before .before .before .before .pre .0 (c .be
 returns : tie.Need-returns Inv-loop μ-loop
 returns c = λ z. absurd (false≢true z)
 
-add-l : tie.Need-add-l Inv-loop μ-loop
-add-l c = search needs
-
-loop-less : tie.Need-loop-less Inv-loop μ-loop
-loop-less c = search needs
-
 loop-again : tie.Need-loop-again Inv-loop μ-loop
 loop-again c = let a = c .before .before .before .before .before .before .args in (omega (arith, c .before .before .before .loop .inv .0), λ s. c .before .before .before .loop .inv .1 (stay-on (a .literals .now) (a .end) (c .before .before .before .loop .l) (a .bounds .now) (c .before .before .loop-test .taken) (c .before .literal-stays .ensures (not-false _ (c .if1 .left))) s))
 
@@ -45,7 +39,7 @@ literals-stay-spec =
     loop-holds
     literal-stays-requires
     returns
-    add-l
-    loop-less
+    (λ c. search needs)
+    (λ c. search needs)
     loop-again
     returns-2)

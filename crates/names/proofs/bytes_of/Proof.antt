@@ -7,20 +7,11 @@ use borrow.Author.Needs.{needs}
 use Rattle.names.proofs.bytes_of.Statement.{statement}
 use Rattle.names.proofs.bytes_of.Tie as tie
 
-count-requires : tie.Need-count-requires
-count-requires c κs = search needs
-
-bytes-at-requires : tie.Need-bytes-at-requires
-bytes-at-requires c κs = search needs
-
 returns : tie.Need-returns
 returns c = c .bytes-at .ensures ∙ nothing-at _ _ 0 ∙ sym (getD-past _ _ _ (let e = c .before .before .count .ensures in let h = c .before .if1 .taken in omega arith))
 
 place-requires : tie.Need-place-requires
 place-requires c κs = let r = c .before .before .before .before .before .pre .room in let e = c .before .count .ensures in let h = c .if1 .left in omega arith
-
-bytes-at-requires-2 : tie.Need-bytes-at-requires-2
-bytes-at-requires-2 c κs = search needs
 
 returns-2 : tie.Need-returns-2
 returns-2 c = name-read _ _ _ _ _ _ (c .before .place .ensures) (c .bytes-at2 .ensures) ∙ sym (getD-first _ _ _ (let e = c .before .before .before .count .ensures in let h = c .before .before .if1 .left in omega arith))
@@ -29,9 +20,9 @@ pub bytes-of-spec : {M : Type 1} → statement M
 bytes-of-spec =
     tie.close
     (tie.spec
-    count-requires
-    bytes-at-requires
+    (λ c κs. search needs)
+    (λ c κs. search needs)
     returns
     place-requires
-    bytes-at-requires-2
+    (λ c κs. search needs)
     returns-2)

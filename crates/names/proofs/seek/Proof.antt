@@ -26,20 +26,11 @@ loop-holds c =
     let start = c .before .before .before .before .before in
     rw (c .head .ensures) (seeking-starts _ _ _ _ (start .pre .1) _ (start .pre .0 .heads (start .args .slot) (slot-inside _ _ (start .pre .1))))
 
-sub-number : tie.Need-sub-number Inv-loop μ-loop
-sub-number c = search needs
-
 place-requires : tie.Need-place-requires Inv-loop μ-loop
 place-requires c κs =
     let loop = c .before in
     let start = loop .before .before .before .before .before .before in
     let w = loop .loop .inv .within in let r = start .pre .0 .room in omega arith
-
-bytes-at-requires : tie.Need-bytes-at-requires Inv-loop μ-loop
-bytes-at-requires c κs = search needs
-
-same-bytes-requires : tie.Need-same-bytes-requires Inv-loop μ-loop
-same-bytes-requires c κs = search needs
 
 returns : tie.Need-returns Inv-loop μ-loop
 returns c =
@@ -85,10 +76,10 @@ seek-spec =
     μ-loop
     head-requires
     loop-holds
-    sub-number
+    (λ c. search needs)
     place-requires
-    bytes-at-requires
-    same-bytes-requires
+    (λ c κs. search needs)
+    (λ c κs. search needs)
     returns
     link-requires
     loop-less

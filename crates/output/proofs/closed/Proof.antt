@@ -10,18 +10,6 @@ use Rattle.output.proofs.closed.Tie as tie
 returns : tie.Need-returns
 returns c = Closes.refuses (λ z. omega arith) refl
 
-out-of-place-requires : tie.Need-out-of-place-requires
-out-of-place-requires c κs = search needs
-
-enum-told : tie.Need-enum-told
-enum-told c = search needs
-
-enum-known-found : tie.Need-enum-known-found
-enum-known-found c = search needs
-
-refused-requires : tie.Need-refused-requires
-refused-requires c κs = search needs
-
 returns-2 : tie.Need-returns-2
 returns-2 c = closed-idle _ _ _ (c .before .before .out-of-place .ensures) _ (c .enum-told .given .1)
 
@@ -31,4 +19,4 @@ returns-3 c = closed-stray _ _ _ (c .before .before .before .before .out-of-plac
 pub closed-spec : {M : Type 1} → statement M
 closed-spec =
     tie.close
-    (tie.spec returns out-of-place-requires enum-told enum-known-found refused-requires returns-2 returns-3)
+    (tie.spec returns (λ c κs. search needs) (λ c. search needs) (λ c. search needs) (λ c κs. search needs) returns-2 returns-3)

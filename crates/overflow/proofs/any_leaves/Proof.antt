@@ -28,12 +28,6 @@ literal-leaves-requires c κs = (c .before .before .before .before .pre .0 (c .b
 returns : tie.Need-returns Inv-loop μ-loop
 returns c = λ names. sym (c .before .before .before .loop .inv .1 names ∙ some-here _ (c .before .before .before .before .before .before .args .literals .now) (c .before .before .before .before .before .before .args .end) (c .before .before .before .loop .l) (c .before .before .loop-test .taken) (sym (c .before .literal-leaves .ensures names) ∙ c .if1 .taken))
 
-add-l : tie.Need-add-l Inv-loop μ-loop
-add-l c = search needs
-
-loop-less : tie.Need-loop-less Inv-loop μ-loop
-loop-less c = search needs
-
 loop-again : tie.Need-loop-again Inv-loop μ-loop
 loop-again c = (omega (arith, c .before .before .before .loop .inv .0), λ names. c .before .before .before .loop .inv .1 names ∙ some-later _ (c .before .before .before .before .before .before .args .literals .now) (c .before .before .before .before .before .before .args .end) (c .before .before .before .loop .l) (c .before .before .loop-test .taken) (sym (c .before .literal-leaves .ensures names) ∙ c .if1 .left))
 
@@ -49,7 +43,7 @@ any-leaves-spec =
     loop-holds
     literal-leaves-requires
     returns
-    add-l
-    loop-less
+    (λ c. search needs)
+    (λ c. search needs)
     loop-again
     returns-2)

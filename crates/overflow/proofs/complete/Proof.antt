@@ -18,26 +18,14 @@ abbrev μ-loop : tie.MeasureT-loop
 loop-holds : tie.Need-loop-holds Inv-loop μ-loop
 loop-holds c = none-completed (c .before .before .before .args .literals .now) (c .before .before .before .args .places .now) (c .before .before .before .args .bound) (c .before .before .before .args .values .now) (c .before .before .before .pre .1)
 
-mul-l : tie.Need-mul-l Inv-loop μ-loop
-mul-l c = search needs
-
-shared-slice-read-l : tie.Need-shared-slice-read-l Inv-loop μ-loop
-shared-slice-read-l c = search needs
-
 complete-one-requires : tie.Need-complete-one-requires Inv-loop μ-loop
 complete-one-requires c κs = (c .before .before .before .before .before .before .before .pre .0 _ (at-member (c .before .before .before .before .before .before .before .args .places .now) (c .before .before .before .loop .i) (c .before .before .loop-test .taken)), c .before .before .before .loop .inv .adds .knowing)
-
-add-i : tie.Need-add-i Inv-loop μ-loop
-add-i c = search needs
 
 loop-less : tie.Need-loop-less Inv-loop μ-loop
 loop-less c = omega (arith, c .before .before .before .before .before .loop-test .taken)
 
 loop-again : tie.Need-loop-again Inv-loop μ-loop
 loop-again c = one-completed (c .before .before .before .before .before .before .before .before .before .before .args .literals .now) (c .before .before .before .before .before .before .before .before .before .before .args .places .now) (c .before .before .before .before .before .before .before .before .before .before .args .bound) (c .before .before .before .before .before .before .before .before .before .before .args .values .now) (c .before .before .before .before .before .before .loop .i) (c .before .before .before .before .before .before .loop .more) (c .before .before .before .before .before .before .loop .values) (c .before .before .before .before .before .before .loop .inv) (c .before .before .before .before .before .loop-test .taken) _ _ (c .before .before .complete-one .ensures)
-
-same-length : tie.Need-same-length Inv-loop μ-loop
-same-length c = search needs
 
 returns : tie.Need-returns Inv-loop μ-loop
 returns c = all-completed (c .before .before .before .before .before .args .literals .now) (c .before .before .before .before .before .args .places .now) (c .before .before .before .before .before .args .bound) (c .before .before .before .before .before .args .values .now) (c .before .loop .i) (c .before .loop .more) (c .before .loop .values) (c .before .loop .inv) (c .loop-test .left)
@@ -49,11 +37,11 @@ complete-spec =
     Inv-loop
     μ-loop
     loop-holds
-    mul-l
-    shared-slice-read-l
+    (λ c. search needs)
+    (λ c. search needs)
     complete-one-requires
-    add-i
+    (λ c. search needs)
     loop-less
     loop-again
-    same-length
+    (λ c. search needs)
     returns)

@@ -8,18 +8,6 @@ use borrow.Author.Needs.{needs}
 use Rattle.overflow.proofs.complete_one.Statement.{statement}
 use Rattle.overflow.proofs.complete_one.Tie as tie
 
-mul-x : tie.Need-mul-x
-mul-x c = search needs
-
-add-x : tie.Need-add-x
-add-x c = search needs
-
-mul-x-2 : tie.Need-mul-x-2
-mul-x-2 c = search needs
-
-shared-slice-read-x : tie.Need-shared-slice-read-x
-shared-slice-read-x c = search needs
-
 shr-if1 : tie.Need-shr-if1
 shr-if1 c = omega (arith, c .before .before .before .pre .0 .left)
 
@@ -28,9 +16,6 @@ returns c = has-value (c .before .before .before .before .args .literals .now) (
 
 right-value-requires : tie.Need-right-value-requires
 right-value-requires c κs = (c .before .before .before .before .before .pre .0 .inside, c .before .before .before .before .before .pre .0 .side, c .before .before .before .before .before .pre .1)
-
-same-length : tie.Need-same-length
-same-length c = search needs
 
 returns-2 : tie.Need-returns-2
 returns-2 c = no-right (c .before .before .before .before .before .before .before .args .literals .now) (c .before .before .before .before .before .before .before .args .l) (c .before .before .before .before .before .before .before .args .bound) (c .before .before .before .before .before .before .before .args .values .now) (c .before .before .before .before .before .before .before .pre .0) (c .before .before .before .before .before .before .before .pre .1) _ (c .before .right-value .ensures) (bit-clear _ _ (c .before .before .before .if1 .left)) (c .if2 .taken)
@@ -44,9 +29,6 @@ slice-write-values c = omega (arith, c .before .before .before .before .before .
 shl-result : tie.Need-shl-result
 shl-result c = omega (arith, c .before .before .before .before .before .before .before .pre .0 .left)
 
-same-length-2 : tie.Need-same-length-2
-same-length-2 c = search needs
-
 returns-3 : tie.Need-returns-3
 returns-3 c = rw (one-shifted (literal-column (c .before .before .before .before .before .before .before .args .literals .now) (c .before .before .before .before .before .before .before .args .l) 4) (omega (arith, c .before .before .before .before .before .before .before .pre .0 .left))) (has-right (c .before .before .before .before .before .before .before .args .literals .now) (c .before .before .before .before .before .before .before .args .l) (c .before .before .before .before .before .before .before .args .bound) (c .before .before .before .before .before .before .before .args .values .now) (c .before .before .before .before .before .before .before .pre .0) (c .before .before .before .before .before .before .before .pre .1) _ (c .before .right-value .ensures) (bit-clear _ _ (c .before .before .before .if1 .left)) (omega (arith, c .if2 .left)))
 
@@ -54,17 +36,17 @@ pub complete-one-spec : {M : Type 1} → statement M
 complete-one-spec =
     tie.close
     (tie.spec
-    mul-x
-    add-x
-    mul-x-2
-    shared-slice-read-x
+    (λ c. search needs)
+    (λ c. search needs)
+    (λ c. search needs)
+    (λ c. search needs)
     shr-if1
     returns
     right-value-requires
-    same-length
+    (λ c. search needs)
     returns-2
     mul-values
     slice-write-values
     shl-result
-    same-length-2
+    (λ c. search needs)
     returns-3)

@@ -21,12 +21,6 @@ rule-column-requires-2 c κs = (c .before .before .before .before .before .befor
 rule-column-requires-3 : tie.Need-rule-column-requires-3
 rule-column-requires-3 c κs = (c .before .before .before .before .before .before .before .before .before .pre .0, c .before .before .before .before .before .before .before .before .before .pre .1, lit< tt)
 
-sub-any-leaves : tie.Need-sub-any-leaves
-sub-any-leaves c = search needs
-
-part-any-leaves-start : tie.Need-part-any-leaves-start
-part-any-leaves-start c = search needs
-
 part-any-leaves-end : tie.Need-part-any-leaves-end
 part-any-leaves-end c = let long = c .before .before .before .before .before .before .before .before .before .before .pre .0 in omega (arith, long)
 
@@ -51,8 +45,8 @@ leaves-range-spec =
     complete-rule-requires
     rule-column-requires-2
     rule-column-requires-3
-    sub-any-leaves
-    part-any-leaves-start
+    (λ c. search needs)
+    (λ c. search needs)
     part-any-leaves-end
     add-any-leaves
     any-leaves-requires

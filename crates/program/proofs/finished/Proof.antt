@@ -3,9 +3,6 @@ use borrow.Author.Needs.{needs}
 use Rattle.program.proofs.finished.Statement.{statement}
 use Rattle.program.proofs.finished.Tie as tie
 
-refused-requires : tie.Need-refused-requires
-refused-requires c κs = search needs
-
 returns : tie.Need-returns
 returns c = rw (c .before .if1 .taken) (c .refused .ensures)
 
@@ -13,4 +10,4 @@ returns-2 : tie.Need-returns-2
 returns-2 c = rw (c .if1 .left)
 
 pub finished-spec : {M : Type 1} → statement M
-finished-spec = tie.close (tie.spec refused-requires returns returns-2)
+finished-spec = tie.close (tie.spec (λ c κs. search needs) returns returns-2)

@@ -12,20 +12,11 @@ use Rattle.report.proofs.Reporting.{answer-alone, answer-facts}
 use Rattle.report.proofs.answer.Statement.{statement}
 use Rattle.report.proofs.answer.Tie as tie
 
-has-line-requires : tie.Need-has-line-requires
-has-line-requires c κs = search needs
-
-refused-requires : tie.Need-refused-requires
-refused-requires c κs = search needs
-
 returns : tie.Need-returns
 returns c =
     c .refused .ensures
     ∙ ap refused (c .before .place-from .ensures)
     ∙ sym (answer-alone _ _ (ltb-false _ _ (sym (c .before .before .before .has-line .ensures) ∙ not-true _ (c .before .before .if1 .taken))))
-
-line-from-requires : tie.Need-line-from-requires
-line-from-requires c κs = search needs
 
 add-next-line : tie.Need-add-next-line
 add-next-line c =
@@ -33,12 +24,6 @@ add-next-line c =
     let a = line .before .before .before .before .args in
     let here = ltb-true (a .at) (length (a .output .now)) (sym (line .before .before .has-line .ensures) ∙ not-false _ (line .before .if1 .left)) in
     omega (arith, its-end-inside (a .output .now) (line .line-from .result .now) (a .at) (line .line-from .ensures) here)
-
-next-line-requires : tie.Need-next-line-requires
-next-line-requires c κs = search needs
-
-found-requires : tie.Need-found-requires
-found-requires c κs = search needs
 
 returns-2 : tie.Need-returns-2
 returns-2 c =
@@ -54,13 +39,13 @@ pub answer-spec : {M : Type 1} → statement M
 answer-spec =
     tie.close
     (tie.spec
-    has-line-requires
     (λ c κs. search needs)
-    refused-requires
+    (λ c κs. search needs)
+    (λ c κs. search needs)
     returns
-    line-from-requires
+    (λ c κs. search needs)
     (λ c κs. search needs)
     add-next-line
-    next-line-requires
-    found-requires
+    (λ c κs. search needs)
+    (λ c κs. search needs)
     returns-2)

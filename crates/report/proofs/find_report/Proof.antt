@@ -8,18 +8,6 @@ use Rattle.report.proofs.Reporting.{report-missing, line-inside, report
 use Rattle.report.proofs.find_report.Statement.{statement}
 use Rattle.report.proofs.find_report.Tie as tie
 
-out-of-place-requires : tie.Need-out-of-place-requires
-out-of-place-requires c κs = search needs
-
-enum-known-line : tie.Need-enum-known-line
-enum-known-line c = search needs
-
-enum-told : tie.Need-enum-told
-enum-told c = search needs
-
-refused-requires : tie.Need-refused-requires
-refused-requires c κs = search needs
-
 returns : tie.Need-returns
 returns c = report-missing _ (c .before .before .before .before .out-of-place .ensures) (c .before .before .enum-told .given .1) _ (c .refused .ensures ∙ ap refused (c .before .place-from .ensures))
 
@@ -30,30 +18,12 @@ add-end c =
     let inside = line-inside _ first _ line in
     search needs
 
-sub-bytes : tie.Need-sub-bytes
-sub-bytes c = search needs
-
-part-bytes-start : tie.Need-part-bytes-start
-part-bytes-start c = search needs
-
 part-bytes-end : tie.Need-part-bytes-end
 part-bytes-end c =
     let first = c .before .before .before .before .out-of-place .ensures in
     let line = c .before .before .line .given .1 in
     let inside = line-inside _ first _ line in
     search needs
-
-next-line-requires : tie.Need-next-line-requires
-next-line-requires c κs = search needs
-
-slice-aggregate-starts-with : tie.Need-slice-aggregate-starts-with
-slice-aggregate-starts-with c = search needs
-
-starts-with-requires : tie.Need-starts-with-requires
-starts-with-requires c κs = search needs
-
-answer-requires : tie.Need-answer-requires
-answer-requires c κs = search needs
 
 returns-2 : tie.Need-returns-2
 returns-2 c =
@@ -63,15 +33,6 @@ returns-2 c =
     let word = sym (c .before .before .starts-with .ensures) ∙ c .before .if1 .taken in
     report-says _ first _ line _ next Answer word _ (c .answer .ensures)
 
-slice-aggregate-starts-with-2 : tie.Need-slice-aggregate-starts-with-2
-slice-aggregate-starts-with-2 c = search needs
-
-starts-with-requires-2 : tie.Need-starts-with-requires-2
-starts-with-requires-2 c κs = search needs
-
-found-requires : tie.Need-found-requires
-found-requires c κs = search needs
-
 returns-3 : tie.Need-returns-3
 returns-3 c =
     let first = c .before .before .before .before .before .before .before .before .before .before .before .before .before .out-of-place .ensures in
@@ -80,15 +41,6 @@ returns-3 c =
     let word = sym (c .before .before .starts-with2 .ensures) ∙ c .before .if2 .taken in
     report-claims _ first _ line _ next Inconsistent word (λ ls. refl) _ (c .found .ensures)
 
-slice-aggregate-starts-with-3 : tie.Need-slice-aggregate-starts-with-3
-slice-aggregate-starts-with-3 c = search needs
-
-starts-with-requires-3 : tie.Need-starts-with-requires-3
-starts-with-requires-3 c κs = search needs
-
-found-requires-2 : tie.Need-found-requires-2
-found-requires-2 c κs = search needs
-
 returns-4 : tie.Need-returns-4
 returns-4 c =
     let first = c .before .before .before .before .before .before .before .before .before .before .before .before .before .before .before .before .out-of-place .ensures in
@@ -96,9 +48,6 @@ returns-4 c =
     let next = c .before .before .before .before .before .before .before .before .before .before .next-line .ensures in
     let word = sym (c .before .before .starts-with3 .ensures) ∙ c .before .if3 .taken in
     report-claims _ first _ line _ next Unknown word (λ ls. refl) _ (c .found2 .ensures)
-
-refused-requires-2 : tie.Need-refused-requires-2
-refused-requires-2 c κs = search needs
 
 returns-5 : tie.Need-returns-5
 returns-5 c =
@@ -113,28 +62,28 @@ pub find-report-spec : {M : Type 1} → statement M
 find-report-spec =
     tie.close
     (tie.spec
-    out-of-place-requires
-    enum-known-line
-    enum-told
     (λ c κs. search needs)
-    refused-requires
+    (λ c. search needs)
+    (λ c. search needs)
+    (λ c κs. search needs)
+    (λ c κs. search needs)
     returns
     add-end
-    sub-bytes
-    part-bytes-start
+    (λ c. search needs)
+    (λ c. search needs)
     part-bytes-end
-    next-line-requires
-    slice-aggregate-starts-with
-    starts-with-requires
-    answer-requires
+    (λ c κs. search needs)
+    (λ c. search needs)
+    (λ c κs. search needs)
+    (λ c κs. search needs)
     returns-2
-    slice-aggregate-starts-with-2
-    starts-with-requires-2
-    found-requires
+    (λ c. search needs)
+    (λ c κs. search needs)
+    (λ c κs. search needs)
     returns-3
-    slice-aggregate-starts-with-3
-    starts-with-requires-3
-    found-requires-2
+    (λ c. search needs)
+    (λ c κs. search needs)
+    (λ c κs. search needs)
     returns-4
-    refused-requires-2
+    (λ c κs. search needs)
     returns-5)

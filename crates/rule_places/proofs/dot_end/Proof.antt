@@ -21,9 +21,6 @@ abbrev μ-loop : tie.MeasureT-loop
 loop-holds : tie.Need-loop-holds Inv-loop μ-loop
 loop-holds c = refl
 
-token-at-requires : tie.Need-token-at-requires Inv-loop μ-loop
-token-at-requires c κs = search needs
-
 returns : tie.Need-returns Inv-loop μ-loop
 returns c = inv (c .before .before .before .loop .inv ∙ no-dot (c .before .before .before .before .before .args .ground) (c .before .before .before .before .before .args .text .now) (c .before .before .before .loop .next) _ (c .before .before .token-at .ensures) (c .if1 .taken))
 
@@ -39,4 +36,4 @@ loop-again c = c .before .before .before .before .before .loop .inv ∙ dot-late
 pub dot-end-spec : {M : Type 1} → statement M
 dot-end-spec =
     tie.close
-    (tie.spec Inv-loop μ-loop loop-holds token-at-requires returns returns-2 loop-less loop-again)
+    (tie.spec Inv-loop μ-loop loop-holds (λ c κs. search needs) returns returns-2 loop-less loop-again)

@@ -17,22 +17,10 @@ abbrev μ-loop : tie.MeasureT-loop
 loop-holds : tie.Need-loop-holds Inv-loop μ-loop
 loop-holds c = (omega arith, reached-start _ _)
 
-dot-end-requires : tie.Need-dot-end-requires Inv-loop μ-loop
-dot-end-requires c κs = search needs
-
-add-n : tie.Need-add-n Inv-loop μ-loop
-add-n c = search needs
-
-loop-less : tie.Need-loop-less Inv-loop μ-loop
-loop-less c = search needs
-
 loop-again : tie.Need-loop-again Inv-loop μ-loop
 loop-again c =
     let a = c .before .before .before .before .args in
     (omega arith, rw (c .dot-end .ensures) (reached-on (a .ground) (a .text .now) (c .before .before .loop .n) (c .before .before .loop .at) (c .before .before .loop .inv .1)))
-
-to-dot-requires : tie.Need-to-dot-requires Inv-loop μ-loop
-to-dot-requires c κs = search needs
 
 returns : tie.Need-returns Inv-loop μ-loop
 returns c =
@@ -47,9 +35,9 @@ sentence-spec =
     Inv-loop
     μ-loop
     loop-holds
-    dot-end-requires
-    add-n
-    loop-less
+    (λ c κs. search needs)
+    (λ c. search needs)
+    (λ c. search needs)
     loop-again
-    to-dot-requires
+    (λ c κs. search needs)
     returns)

@@ -7,14 +7,8 @@ use borrow.Author.Needs.{needs}
 use Rattle.rule_places.proofs.to_dot.Statement.{statement}
 use Rattle.rule_places.proofs.to_dot.Tie as tie
 
-token-at-requires : tie.Need-token-at-requires
-token-at-requires c κs = search needs
-
 returns : tie.Need-returns
 returns c = inv (no-token (c .before .before .before .before .before .args .ground) (c .before .before .before .before .before .args .text .now) (c .before .before .before .before .before .args .at) _ (c .before .before .before .token-at .ensures) (c .if1 .taken))
-
-dot-end-requires : tie.Need-dot-end-requires
-dot-end-requires c κs = search needs
 
 sub-place-from : tie.Need-sub-place-from
 sub-place-from c =
@@ -34,4 +28,4 @@ returns-2 c =
     c .place-from .ensures ∙ ap (between (token .token-at .result .place .start)) (end .dot-end .ensures) ∙ inv (first-to-dot (a .ground) (a .text .now) (a .at) _ (token .token-at .ensures) (if1 .if1 .left))
 
 pub to-dot-spec : {M : Type 1} → statement M
-to-dot-spec = tie.close (tie.spec token-at-requires returns dot-end-requires sub-place-from (λ c κs. search needs) returns-2)
+to-dot-spec = tie.close (tie.spec (λ c κs. search needs) returns (λ c κs. search needs) sub-place-from (λ c κs. search needs) returns-2)

@@ -6,24 +6,9 @@ use Rattle.tokens.specs.Token.{markAt}
 use Rattle.tokens.proofs.mark_at.Statement.{statement}
 use Rattle.tokens.proofs.mark_at.Tie as tie
 
-pair-kind-requires : tie.Need-pair-kind-requires
-pair-kind-requires c κs = search needs
-
-kind-number-requires : tie.Need-kind-number-requires
-kind-number-requires c κs = search needs
-
-single-kind-requires : tie.Need-single-kind-requires
-single-kind-requires c κs = search needs
-
-placed-requires : tie.Need-placed-requires
-placed-requires c κs = search needs
-
 returns : tie.Need-returns
 unfolding markAt
 returns c = rw (c .placed .ensures, c .before .single-kind .ensures, ← (c .before .before .before .before .pair-kind .ensures), ← (c .before .before .before .kind-number .ensures), eq-eqb _ _ (c .before .before .if1 .taken))
-
-placed-requires-2 : tie.Need-placed-requires-2
-placed-requires-2 c κs = search needs
 
 returns-2 : tie.Need-returns-2
 unfolding markAt
@@ -33,10 +18,10 @@ pub mark-at-spec : {M : Type 1} → statement M
 mark-at-spec =
     tie.close
     (tie.spec
-    pair-kind-requires
-    kind-number-requires
-    single-kind-requires
-    placed-requires
+    (λ c κs. search needs)
+    (λ c κs. search needs)
+    (λ c κs. search needs)
+    (λ c κs. search needs)
     returns
-    placed-requires-2
+    (λ c κs. search needs)
     returns-2)

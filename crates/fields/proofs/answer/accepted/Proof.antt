@@ -3,11 +3,8 @@ use borrow.Author.Needs.{needs}
 use Rattle.fields.proofs.answer.accepted.Statement.{statement}
 use Rattle.fields.proofs.answer.accepted.Tie as tie
 
-claimed-requires : tie.Need-claimed-requires
-claimed-requires c κs = search needs
-
 returns : tie.Need-returns
 returns c = rw (c .claimed .ensures)
 
 pub accepted-spec : {M : Type 1} → statement M
-accepted-spec = tie.close (tie.spec claimed-requires returns)
+accepted-spec = tie.close (tie.spec (λ c κs. search needs) returns)

@@ -3,11 +3,8 @@ use borrow.Author.Needs.{needs}
 use Rattle.fields.proofs.answer.smaller.Statement.{statement}
 use Rattle.fields.proofs.answer.smaller.Tie as tie
 
-claimed-requires : tie.Need-claimed-requires
-claimed-requires c κs = search needs
-
 returns : tie.Need-returns
 returns c = rw (c .claimed .ensures)
 
 pub smaller-spec : {M : Type 1} → statement M
-smaller-spec = tie.close (tie.spec claimed-requires returns)
+smaller-spec = tie.close (tie.spec (λ c κs. search needs) returns)

@@ -4,51 +4,6 @@ use borrow.Author.Needs.{needs}
 use Rattle.names.proofs.table.add.Statement.{statement}
 use Rattle.names.proofs.table.add.Tie as tie
 
-count-requires : tie.Need-count-requires
-count-requires c κs = search needs
-
-head-requires : tie.Need-head-requires
-head-requires c κs = search needs
-
-mul-at : tie.Need-mul-at
-mul-at c = search needs
-
-add-at : tie.Need-add-at
-add-at c = search needs
-
-put-number-requires : tie.Need-put-number-requires
-put-number-requires c κs = search needs
-
-add-put-number : tie.Need-add-put-number
-add-put-number c = search needs
-
-put-number-requires-2 : tie.Need-put-number-requires-2
-put-number-requires-2 c κs = search needs
-
-add-put-number-2 : tie.Need-add-put-number-2
-add-put-number-2 c = search needs
-
-put-number-requires-3 : tie.Need-put-number-requires-3
-put-number-requires-3 c κs = search needs
-
-add-put-number-3 : tie.Need-add-put-number-3
-add-put-number-3 c = search needs
-
-add-put-number-4 : tie.Need-add-put-number-4
-add-put-number-4 c = search needs
-
-put-number-requires-4 : tie.Need-put-number-requires-4
-put-number-requires-4 c κs = search needs
-
-add-put-number-5 : tie.Need-add-put-number-5
-add-put-number-5 c = search needs
-
-put-number-requires-5 : tie.Need-put-number-requires-5
-put-number-requires-5 c κs = search needs
-
-same-length : tie.Need-same-length
-same-length c = search needs
-
 returns : tie.Need-returns
 unfolding with-row
 returns c =
@@ -65,19 +20,19 @@ pub add-spec : {M : Type 1} → statement M
 add-spec =
     tie.close
     (tie.spec
-    count-requires
-    head-requires
-    mul-at
-    add-at
-    put-number-requires
-    add-put-number
-    put-number-requires-2
-    add-put-number-2
-    put-number-requires-3
-    add-put-number-3
-    add-put-number-4
-    put-number-requires-4
-    add-put-number-5
-    put-number-requires-5
-    same-length
+    (λ c κs. search needs)
+    (λ c κs. search needs)
+    (λ c. search needs)
+    (λ c. search needs)
+    (λ c κs. search needs)
+    (λ c. search needs)
+    (λ c κs. search needs)
+    (λ c. search needs)
+    (λ c κs. search needs)
+    (λ c. search needs)
+    (λ c. search needs)
+    (λ c κs. search needs)
+    (λ c. search needs)
+    (λ c κs. search needs)
+    (λ c. search needs)
     returns)

@@ -5,22 +5,13 @@ use borrow.Author.Needs.{needs}
 use Rattle.names.proofs.text.bytes_at.Statement.{statement}
 use Rattle.names.proofs.text.bytes_at.Tie as tie
 
-part-requires : tie.Need-part-requires
-part-requires c κs = search needs
-
 returns : tie.Need-returns
 unfolding bytes-at
 returns c = rw (c .part .ensures, lt-ltb _ _ (c .before .if1 .taken))
-
-sub-behind : tie.Need-sub-behind
-sub-behind c = search needs
-
-part-requires-2 : tie.Need-part-requires-2
-part-requires-2 c κs = search needs
 
 returns-2 : tie.Need-returns-2
 unfolding bytes-at
 returns-2 c = rw (c .part2 .ensures, c .before .place-from .ensures, le-ltb _ _ (c .before .before .if1 .left))
 
 pub bytes-at-spec : {M : Type 1} → statement M
-bytes-at-spec = tie.close (tie.spec part-requires returns sub-behind (λ c κs. search needs) part-requires-2 returns-2)
+bytes-at-spec = tie.close (tie.spec (λ c κs. search needs) returns (λ c. search needs) (λ c κs. search needs) (λ c κs. search needs) returns-2)

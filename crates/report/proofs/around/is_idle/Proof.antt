@@ -8,11 +8,8 @@ use Rattle.report.proofs.around.is_idle.Tie as tie
 returns : tie.Need-returns
 returns c = idle-empty (c .before .args .line .now) (c .if1 .taken)
 
-shared-slice-read-result : tie.Need-shared-slice-read-result
-shared-slice-read-result c = search needs
-
 returns-2 : tie.Need-returns-2
 returns-2 c = idle-first (c .before .before .args .line .now) (c .before .if1 .left)
 
 pub is-idle-spec : {M : Type 1} → statement M
-is-idle-spec = tie.close (tie.spec returns shared-slice-read-result returns-2)
+is-idle-spec = tie.close (tie.spec returns (λ c. search needs) returns-2)

@@ -22,15 +22,6 @@ abbrev μ-loop : tie.MeasureT-loop
 loop-holds : tie.Need-loop-holds Inv-loop μ-loop
 loop-holds c = λ r h. h
 
-has-line-requires : tie.Need-has-line-requires Inv-loop μ-loop
-has-line-requires c κs = search needs
-
-line-from-requires : tie.Need-line-from-requires Inv-loop μ-loop
-line-from-requires c κs = search needs
-
-is-idle-requires : tie.Need-is-idle-requires Inv-loop μ-loop
-is-idle-requires c κs = search needs
-
 returns : tie.Need-returns Inv-loop μ-loop
 returns c =
     let here = ltb-true _ _ (sym (c .before .before .before .before .before .has-line .ensures) ∙ c .before .before .before .before .if1 .taken) in
@@ -43,9 +34,6 @@ add-next-line c =
     let start = c .before .before .before .before .before .loop .start in
     let here = ltb-true start (length text) (sym (c .before .before .before .before .has-line .ensures) ∙ c .before .before .before .if1 .taken) in
     omega (arith, its-end-inside text (c .before .before .line-from .result .now) start (c .before .before .line-from .ensures) here)
-
-next-line-requires : tie.Need-next-line-requires Inv-loop μ-loop
-next-line-requires c κs = search needs
 
 loop-less : tie.Need-loop-less Inv-loop μ-loop
 loop-less c =
@@ -68,13 +56,13 @@ out-of-place-spec =
     Inv-loop
     μ-loop
     loop-holds
-    has-line-requires
-    line-from-requires
-    is-idle-requires
+    (λ c κs. search needs)
+    (λ c κs. search needs)
+    (λ c κs. search needs)
     (λ c κs. search needs)
     returns
     add-next-line
-    next-line-requires
+    (λ c κs. search needs)
     loop-less
     loop-again
     returns-2)

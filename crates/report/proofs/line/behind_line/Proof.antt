@@ -6,14 +6,8 @@ use Rattle.report.specs.Lines.{nextLine}
 use Rattle.report.proofs.line.behind_line.Statement.{statement}
 use Rattle.report.proofs.line.behind_line.Tie as tie
 
-line-end-requires : tie.Need-line-end-requires
-line-end-requires c κs = search needs
-
-next-line-requires : tie.Need-next-line-requires
-next-line-requires c κs = search needs
-
 returns : tie.Need-returns
 returns c = c .next-line .ensures ∙ ap (nextLine (c .before .before .before .args .text .now)) (c .before .line-end .ensures)
 
 pub behind-line-spec : {M : Type 1} → statement M
-behind-line-spec = tie.close (tie.spec line-end-requires next-line-requires returns)
+behind-line-spec = tie.close (tie.spec (λ c κs. search needs) (λ c κs. search needs) returns)

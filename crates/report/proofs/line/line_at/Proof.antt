@@ -10,31 +10,10 @@ use Rattle.report.proofs.LineList.{end-inside, line-none}
 use Rattle.report.proofs.line.line_at.Statement.{statement}
 use Rattle.report.proofs.line.line_at.Tie as tie
 
-has-line-requires : tie.Need-has-line-requires
-has-line-requires c κs = search needs
-
-sub-result : tie.Need-sub-result
-sub-result c = search needs
-
-part-result-start : tie.Need-part-result-start
-part-result-start c = search needs
-
-part-result-end : tie.Need-part-result-end
-part-result-end c = search needs
-
 returns : tie.Need-returns
 returns c =
     let none = ltb-false _ _ (sym (c .before .before .has-line .ensures) ∙ not-true _ (c .before .if1 .taken)) in
     sym (line-none (c .before .before .before .before .args .text .now) (c .before .before .before .before .args .at) none)
-
-line-end-requires : tie.Need-line-end-requires
-line-end-requires c κs = search needs
-
-sub-result-2 : tie.Need-sub-result-2
-sub-result-2 c = search needs
-
-part-result-start-2 : tie.Need-part-result-start-2
-part-result-start-2 c = search needs
 
 part-result-end-2 : tie.Need-part-result-end-2
 part-result-end-2 c =
@@ -52,13 +31,13 @@ pub line-at-spec : {M : Type 1} → statement M
 line-at-spec =
     tie.close
     (tie.spec
-    has-line-requires
-    sub-result
-    part-result-start
-    part-result-end
+    (λ c κs. search needs)
+    (λ c. search needs)
+    (λ c. search needs)
+    (λ c. search needs)
     returns
-    line-end-requires
-    sub-result-2
-    part-result-start-2
+    (λ c κs. search needs)
+    (λ c. search needs)
+    (λ c. search needs)
     part-result-end-2
     returns-2)

@@ -7,15 +7,6 @@ use Rattle.report.specs.Word.{agrees}
 use Rattle.report.proofs.word.agrees.Statement.{statement}
 use Rattle.report.proofs.word.agrees.Tie as tie
 
-enum-told : tie.Need-enum-told
-enum-told c = search needs
-
-enum-told-2 : tie.Need-enum-told-2
-enum-told-2 c = search needs
-
-enum-told-3 : tie.Need-enum-told-3
-enum-told-3 c = search needs
-
 returns : tie.Need-returns
 returns c = ap (λ (w : Word). agrees w (c .before .before .args .code)) (sym (c .enum-told .given .1))
 
@@ -26,4 +17,4 @@ returns-3 : tie.Need-returns-3
 returns-3 c = ap (λ (w : Word). agrees w (c .before .before .args .code)) (sym (c .enum-told3 .given .1))
 
 pub agrees-spec : {M : Type 1} → statement M
-agrees-spec = tie.close (tie.spec enum-told enum-told-2 enum-told-3 returns returns-2 returns-3)
+agrees-spec = tie.close (tie.spec (λ c. search needs) (λ c. search needs) (λ c. search needs) returns returns-2 returns-3)

@@ -5,21 +5,12 @@ use borrow.Author.Needs.{needs}
 use Rattle.syntax.proofs.separator.separator_at.Statement.{statement}
 use Rattle.syntax.proofs.separator.separator_at.Tie as tie
 
-token-at-requires : tie.Need-token-at-requires
-token-at-requires c κs = search needs
-
-gone-requires : tie.Need-gone-requires
-gone-requires c κs = search needs
-
 returns : tie.Need-returns
 returns c =
     let if1 = c .before in
     let token-at = if1 .before .before in
     let start = token-at .before .before in
     is-comma (start .args .ground) (start .args .text .now) (start .args .at) (start .args .mark) _ (token-at .token-at .ensures) _ (if1 .if1 .taken) (c .gone .ensures)
-
-gone-requires-2 : tie.Need-gone-requires-2
-gone-requires-2 c κs = search needs
 
 returns-2 : tie.Need-returns-2
 returns-2 c =
@@ -40,4 +31,4 @@ returns-3 c =
 pub separator-at-spec : {M : Type 1} → statement M
 separator-at-spec =
     tie.close
-    (tie.spec token-at-requires gone-requires returns gone-requires-2 returns-2 returns-3)
+    (tie.spec (λ c κs. search needs) (λ c κs. search needs) returns (λ c κs. search needs) returns-2 returns-3)

@@ -5,12 +5,6 @@ use borrow.Author.Needs.{needs}
 use Rattle.syntax.proofs.token.token_at.Statement.{statement}
 use Rattle.syntax.proofs.token.token_at.Tie as tie
 
-next-token-requires : tie.Need-next-token-requires
-next-token-requires c κs = search needs
-
-kind-number-requires : tie.Need-kind-number-requires
-kind-number-requires c κs = search needs
-
 add-t9 : tie.Need-add-t9
 add-t9 c =
     let next-token = c .before .before .before in
@@ -25,4 +19,4 @@ returns c =
     as-read (start .args .ground) (start .args .text .now) (start .args .at) _ (next-token .next-token .ensures) _ (kind-number .kind-number .ensures)
 
 pub token-at-spec : {M : Type 1} → statement M
-token-at-spec = tie.close (tie.spec next-token-requires kind-number-requires add-t9 returns)
+token-at-spec = tie.close (tie.spec (λ c κs. search needs) (λ c κs. search needs) add-t9 returns)

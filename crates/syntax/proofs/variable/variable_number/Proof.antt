@@ -19,20 +19,8 @@ Inv-loop text variables met name i₀ i = (i ≤ met) × (first-among name (map 
 abbrev μ-loop : tie.MeasureT-loop
 μ-loop text variables met name i₀ i = met - i
 
-part-requires : tie.Need-part-requires Inv-loop μ-loop
-part-requires c κs = search needs
-
 loop-holds : tie.Need-loop-holds Inv-loop μ-loop
 loop-holds c = (omega arith, omega arith)
-
-place-in-requires : tie.Need-place-in-requires Inv-loop μ-loop
-place-in-requires c κs = search needs
-
-part-requires-2 : tie.Need-part-requires-2 Inv-loop μ-loop
-part-requires-2 c κs = search needs
-
-same-bytes-requires : tie.Need-same-bytes-requires Inv-loop μ-loop
-same-bytes-requires c κs = search needs
 
 returns : tie.Need-returns Inv-loop μ-loop
 returns c =
@@ -45,12 +33,6 @@ returns c =
     let h = among-here (start .args .text .now) (at-part .part .result .now) (start .args .variables .now) (start .args .met) (loop .loop .i) (omega arith) _ _ refl _ (place-in .place-in .ensures) (part2 .part2 .ensures) _ (same-bytes .same-bytes .ensures) (c .if1 .taken) in
     let e = ap (λ b. first-among b (map (part (start .args .text .now)) (places-in (start .args .variables .now) (start .args .met)))) (at-part .part .ensures) in
     omega (arith, loop .loop .inv .1)
-
-add-i : tie.Need-add-i Inv-loop μ-loop
-add-i c = search needs
-
-loop-less : tie.Need-loop-less Inv-loop μ-loop
-loop-less c = search needs
 
 loop-again : tie.Need-loop-again Inv-loop μ-loop
 loop-again c =
@@ -77,13 +59,13 @@ variable-number-spec =
     (tie.spec
     Inv-loop
     μ-loop
-    part-requires
+    (λ c κs. search needs)
     loop-holds
-    place-in-requires
-    part-requires-2
-    same-bytes-requires
+    (λ c κs. search needs)
+    (λ c κs. search needs)
+    (λ c κs. search needs)
     returns
-    add-i
-    loop-less
+    (λ c. search needs)
+    (λ c. search needs)
     loop-again
     returns-2)

@@ -18,28 +18,16 @@ Inv-loop text at program end₀ end = at + gap true (drop at text) ≡ end + gap
 abbrev μ-loop : tie.MeasureT-loop
 μ-loop text at program end₀ end = length text - end
 
-run-end-requires : tie.Need-run-end-requires Inv-loop μ-loop
-run-end-requires c κs = search needs
-
 returns : tie.Need-returns Inv-loop μ-loop
 returns c = rw (not-true (c .before .before .before .args .program) (c .before .if1 .taken)) (gap-stop false _ _ _ (c .run-end .ensures) refl)
 
 loop-holds : tie.Need-loop-holds Inv-loop μ-loop
 loop-holds c = refl
 
-run-end-requires-2 : tie.Need-run-end-requires-2 Inv-loop μ-loop
-run-end-requires-2 c κs = search needs
-
-starts-comment-requires : tie.Need-starts-comment-requires Inv-loop μ-loop
-starts-comment-requires c κs = search needs
-
 returns-2 : tie.Need-returns-2 Inv-loop μ-loop
 returns-2 c =
     rw (not-false (c .before .before .before .before .before .before .args .program) (c .before .before .before .before .if1 .left))
     (gap-stop true _ _ _ (c .before .before .run-end2 .ensures) (sym (c .before .starts-comment .ensures) ∙ not-true _ (c .if2 .taken)) ∙ sym (c .before .before .before .loop .inv))
-
-run-end-requires-3 : tie.Need-run-end-requires-3 Inv-loop μ-loop
-run-end-requires-3 c κs = search needs
 
 loop-less : tie.Need-loop-less Inv-loop μ-loop
 loop-less c =
@@ -55,12 +43,12 @@ gap-end-spec =
     (tie.spec
     Inv-loop
     μ-loop
-    run-end-requires
+    (λ c κs. search needs)
     returns
     loop-holds
-    run-end-requires-2
-    starts-comment-requires
+    (λ c κs. search needs)
+    (λ c κs. search needs)
     returns-2
-    run-end-requires-3
+    (λ c κs. search needs)
     loop-less
     loop-again)

@@ -10,9 +10,6 @@ use Rattle.tokens.proofs.Prefix.{byte-inside}
 use Rattle.tokens.proofs.gap.starts_comment.Statement.{statement}
 use Rattle.tokens.proofs.gap.starts_comment.Tie as tie
 
-byte-at-requires : tie.Need-byte-at-requires
-byte-at-requires c κs = search needs
-
 returns : tie.Need-returns
 returns c = rw (starts-comment-at, ← (c .before .byte-at .ensures), ne-eqb _ _ (c .if1 .taken))
 
@@ -22,11 +19,8 @@ add-byte-at c =
     let i = byte-inside (a .text .now) (a .at) (λ z. let q : _≡_ {A = ℕ} 37 0 = sym (c .if1 .left) ∙ c .before .byte-at .ensures ∙ z in omega arith) in
     omega arith
 
-byte-at-requires-2 : tie.Need-byte-at-requires-2
-byte-at-requires-2 c κs = search needs
-
 returns-2 : tie.Need-returns-2
 returns-2 c = rw (starts-comment-at, ← (c .before .before .byte-at .ensures), eq-eqb _ _ (c .before .if1 .left), c .byte-at2 .ensures)
 
 pub starts-comment-spec : {M : Type 1} → statement M
-starts-comment-spec = tie.close (tie.spec byte-at-requires returns add-byte-at byte-at-requires-2 returns-2)
+starts-comment-spec = tie.close (tie.spec (λ c κs. search needs) returns add-byte-at (λ c κs. search needs) returns-2)

@@ -19,18 +19,6 @@ loop-holds : tie.Need-loop-holds Inv-loop μ-loop
 unfolding capped
 loop-holds c = (refl, refl)
 
-shared-slice-read-digit : tie.Need-shared-slice-read-digit Inv-loop μ-loop
-shared-slice-read-digit c = search needs
-
-with-digit-requires : tie.Need-with-digit-requires Inv-loop μ-loop
-with-digit-requires c κs = search needs
-
-add-i : tie.Need-add-i Inv-loop μ-loop
-add-i c = search needs
-
-loop-less : tie.Need-loop-less Inv-loop μ-loop
-loop-less c = search needs
-
 loop-again : tie.Need-loop-again Inv-loop μ-loop
 loop-again c = (rw (c .with-digit .ensures) (capped-twice _), c .before .before .before .loop .inv .1 ∙ decimal-on _ _ _ _ (c .before .before .loop-test .taken) (c .with-digit .ensures))
 
@@ -46,9 +34,9 @@ value-spec =
     Inv-loop
     μ-loop
     loop-holds
-    shared-slice-read-digit
-    with-digit-requires
-    add-i
-    loop-less
+    (λ c. search needs)
+    (λ c κs. search needs)
+    (λ c. search needs)
+    (λ c. search needs)
     loop-again
     returns)

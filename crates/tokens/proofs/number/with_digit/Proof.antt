@@ -11,15 +11,6 @@ use Rattle.tokens.proofs.number.with_digit.Tie as tie
 returns : tie.Need-returns
 returns c = sym (capped-over (c .before .args .number * 10 + (c .before .args .digit - 48)) (omega arith))
 
-mul-longer : tie.Need-mul-longer
-mul-longer c = search needs
-
-digit-value-requires : tie.Need-digit-value-requires
-digit-value-requires c κs = search needs
-
-add-longer : tie.Need-add-longer
-add-longer c = search needs
-
 returns-2 : tie.Need-returns-2
 returns-2 c = sym (capped-over (c .before .before .before .args .number * 10 + (c .before .before .before .args .digit - 48)) (omega arith))
 
@@ -28,4 +19,4 @@ returns-3 c = rw (c .before .digit-value .ensures) (sym (capped-within _ (rw (�
 
 pub with-digit-spec : {M : Type 1} → statement M
 with-digit-spec =
-    tie.close (tie.spec returns mul-longer digit-value-requires add-longer returns-2 returns-3)
+    tie.close (tie.spec returns (λ c. search needs) (λ c κs. search needs) (λ c. search needs) returns-2 returns-3)

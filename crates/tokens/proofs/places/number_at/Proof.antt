@@ -4,17 +4,8 @@ use borrow.Author.Needs.{needs}
 use Rattle.tokens.proofs.places.number_at.Statement.{statement}
 use Rattle.tokens.proofs.places.number_at.Tie as tie
 
-mul-result : tie.Need-mul-result
-mul-result c = search needs
-
-shared-slice-read-result : tie.Need-shared-slice-read-result
-shared-slice-read-result c = search needs
-
 cast-result : tie.Need-cast-result
 cast-result c = omega (arith, c .shared-slice-known .given (c .before .args .at))
 
-returns : tie.Need-returns
-returns c = search needs
-
 pub number-at-spec : {M : Type 1} → statement M
-number-at-spec = tie.close (tie.spec mul-result shared-slice-read-result cast-result returns)
+number-at-spec = tie.close (tie.spec (λ c. search needs) (λ c. search needs) cast-result (λ c. search needs))
