@@ -12,7 +12,7 @@ use Rattle.meaning.proofs.Booleans.{not-true, not-false}
 use Rattle.grammar.specs.Trees.{Program}
 use Rattle.grammar.specs.Abstraction.{rules-for, facts-for}
 use Rattle.stages.specs.Parts.{in-text}
-use Rattle.stages.specs.Stage.{Outcome, on, stop, Stage, stops, goes, given, passed}
+use Rattle.stages.specs.Stage.{Outcome, on, stop, stops, goes, given, passed}
 use Rattle.program.specs.Stage.{ProgramStage}
 use Rattle.report.specs.declared.word.Word.{Word}
 use Rattle.report.specs.declared.word.Word.the-variants as words
@@ -23,31 +23,16 @@ use Rattle.output.specs.Answers.{ReadsOutput}
 use Rattle.output.proofs.Uses.{Says as Reports, output-refused, output-says}
 use Rattle.promise.specs.Answer as paper
 use Rattle.promise.specs.Answered.{Reported, code-of, Check}
-use Rattle.fields.specs.declared.answer.Text.{Text}
 use Rattle.fields.specs.declared.answer.Text.the-variants.{Program as InProgram, Output as InOutput}
 use Rattle.fields.specs.declared.answer.Kind.the-variants.{ClaimedNone, ClaimedUnknown}
 use Rattle.fields.specs.declared.answer.Answer.{Answer}
 use Rattle.fields.specs.Values.{claimed, refused}
 use Rattle.fields.specs.Parts.{text-of}
-use Rattle.fields.specs.Answers.{Says}
 use Rattle.fields.specs.Checked.{Answers}
-use Rattle.checker.specs.Standing.{Behind, BehindProgram}
-use Rattle.fields.proofs.Saying.{refused-says, none-says, unknown-says}
-
-module _ (S : Stage paper.Result) (places : List ℕ) where
-  -- a stage that refuses, and an answer that says so
-  pub refuses : (n : ℕ) (text : Text) (place : Place) → S (stop n (in-text (text-of text) place)) → (a : Answer) → a ≡ refused n text place → Answers S places a places
-  unfolding paper.result
-  refuses n text place h a e = record { answer = paper.refused n (in-text (text-of text) place); says = rw e (refused-says n text place); gives = record { outcome = stop n (in-text (text-of text) place); checked = h; so = refl } }
-
-  -- a stage that hands on an answer, and an answer that says it
-  pub hands-on : (x : paper.Answer) (left : List ℕ) → S (on (record { answer = x; places = left })) → (a : Answer) → Says a x → Answers S places a left
-  unfolding paper.result
-  hands-on x left h a s = record { answer = x; says = s; gives = record { outcome = on (record { answer = x; places = left }); checked = h; so = refl } }
-
-  -- what the stages behind answer is the answer
-  pub answers-as : (T : Stage paper.Result) → ((o : Outcome paper.Result) → S o → T o) → (a : Answer) (left : List ℕ) → Answers S places a left → Answers T places a left
-  answers-as T f a left k = record { answer = k .answer; says = k .says; gives = record { outcome = k .gives .outcome; checked = f _ (k .gives .checked); so = k .gives .so } }
+use Rattle.candidate.specs.Standing.{Behind}
+use Rattle.checker.specs.Standing.{BehindProgram}
+use Rattle.fields.proofs.Saying.{none-says, unknown-says}
+use Rattle.fields.proofs.Answering.{refuses, hands-on, answers-as}
 
 module _ (the-program the-output : Bytes) (code : ℕ) (places : List ℕ) where
   -- ---- the program

@@ -13,9 +13,7 @@ use reported::reported;
 use tokens::place_from;
 use tokens::sizes::MOST_TEXT;
 
-mod facts;
 mod reported;
-mod settled;
 
 // The answer, with a table for the names of both texts.
 fn with_names<'a>(

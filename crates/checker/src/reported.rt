@@ -1,14 +1,13 @@
 // Behind a program that is read: the solver's output, its code, and then what it reports.
 ghost use Rattle.checker.specs.Standing.{WithRules, AnswersRules};
-use crate::facts::fault_of;
-use crate::facts::with_facts;
-use crate::settled::Counts;
+use candidate::put_facts;
+use candidate::settled::Counts;
+use candidate::with_facts;
 use fields::answer::Answer;
 use fields::answer::Kind;
 use fields::answer::Text;
 use fields::answer::claimed;
 use fields::answer::refused;
-use filling::fill_facts;
 use output::read_output;
 use report::word::Word;
 use report::word::agrees;
@@ -63,8 +62,7 @@ pub fn reported<'a>(
     match word {
         Word::Answer => {
             let count = read.count;
-            let clash = fill_facts(&facts, &predicates, count, store);
-            let fault = fault_of(&starts, &lengths, clash);
+            let fault = put_facts(&facts, &predicates, &starts, &lengths, count, store);
             let counts = Counts {
                 facts: count,
                 rules: total,

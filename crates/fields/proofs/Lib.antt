@@ -2,6 +2,7 @@
 pub mod Cutting
 pub mod Kept
 pub mod Saying
+pub mod Answering
 pub mod Said
 pub mod Whole
 pub mod Unique

@@ -7,14 +7,14 @@ use lib.ListN.{length, take, drop, length-take}
 use lib.Seq.{take-at, drop-at, drop-drop}
 use borrow.Rule.Slice.PartMut.{postOf, putMid, mid-len, same-len-mid, take-put, drop-put}
 use Rattle.meaning.specs.Rules.{Bytes}
-use Rattle.tables.specs.Stored.{Kept}
-use Rattle.tables.proofs.Stored.{kept-part}
+use Rattle.tables.specs.Stored.{with-row, Kept}
+use Rattle.tables.proofs.Stored.{put-kept-of, put-part-of, kept-part}
 use Rattle.chains.specs.Links.{Linked}
 use Rattle.clashes.specs.declared.Clashing.{Clashing}
 use Rattle.clashes.specs.Clashes.{FirstClash}
 use Rattle.program.specs.declared.ProgramRead.{ProgramRead}
-use Rattle.matching.specs.Store.{facts-in, literals-in, rules-in, links-in}
-use Rattle.filling.specs.Filling.{store-size, RulesRead, RulesFilled, FactsFilled}
+use Rattle.store.specs.Store.{store-size, facts-in, literals-in, links-in}
+use Rattle.filling.specs.Filling.{facts-size, RulesRead, RulesFilled, FactsFilled}
 
 module _ (a e : ℕ) (store part : List ℕ) (low : a ≤ e) (high : e ≤ length store) (fits : length part ≡ e - a) where
   pub put-kept : Kept a e store (putMid a (e - a) store part)
@@ -34,20 +34,40 @@ module _ {a b : ℕ} {store store′ : List ℕ} (k : Kept a b store store′) w
 
 -- ---- rules, then facts and chains
 
-module _ (program output : Bytes) (names rules store : List ℕ) (r : ProgramRead) (names′ rules′ store′ store″ : List ℕ) (long : length store ≡ store-size) (read : RulesRead program output names rules store r names′ rules′ store′) (put : rules-in store″ ≡ rules′) (kept : Kept 61_440 71_680 store′ store″) where
-  pub rules-filled : RulesFilled program output names store r names′ store″
-  rules-filled =
-      let same : literals-in store″ ≡ literals-in store′ = kept-part kept 52_224 9_216 (omega arith) in
-      record { long = kept .long ∙ read .kept .long ∙ long; rules-before = rules; reads = rw (put, same) (read .reads) }
+module _ (program output : Bytes) (names rules store : List ℕ) (r : ProgramRead) (names′ rules′ store′ : List ℕ) (long : length store ≡ store-size) (read : RulesRead program output names rules store r names′ rules′ store′) where
+  -- the rules have room
+  pub rules-fit : length rules ≡ 10_240 → 61_440 + length rules′ ≤ length store′
+  rules-fit wide = omega (arith, read .rules-long, read .kept .long)
 
-module _ (facts : List ℕ) (count : ℕ) (store store′ store″ : List ℕ) (long : length store ≡ store-size) (put : facts-in store′ ≡ facts) (kept : Kept 0 9_216 store store′) (linked : Linked (links-in store″) facts count) (kept′ : Kept 71_680 102_400 store′ store″) (r : Clashing) (clash : (names : List Bytes) → FirstClash names facts count r) where
-  pub facts-filled : FactsFilled facts count store store″ r
-  facts-filled =
-      record {
-        long = kept′ .long ∙ kept .long ∙ long;
-        facts-are = kept-part kept′ 9_216 0 (omega arith) ∙ put;
-        literals-are = kept-part kept′ 52_224 9_216 (omega arith) ∙ kept-behind kept 52_224 9_216 (omega arith);
-        rules-are = kept-part kept′ 10_240 61_440 (omega arith) ∙ kept-behind kept 10_240 61_440 (omega arith);
-        linked = linked;
-        clash = clash;
-      }
+  pub rules-filled : length rules ≡ 10_240 → RulesFilled program output names store r names′ (with-row store′ 61_440 rules′)
+  rules-filled wide =
+      let size : length rules′ ≡ 10_240 = read .rules-long ∙ wide in
+      let kept = put-kept-of store′ 61_440 rules′ (rules-fit wide) 10_240 size in
+      let same : literals-in (with-row store′ 61_440 rules′) ≡ literals-in store′ = kept-part kept 52_224 9_216 (omega arith) in
+      record { long = kept .long ∙ read .kept .long ∙ long; rules-before = rules; reads = rw (put-part-of store′ 61_440 rules′ (rules-fit wide) 10_240 size, same) (read .reads) }
+
+module _ (facts : List ℕ) (count : ℕ) (store : List ℕ) (long : length store ≡ store-size) (wide : length facts ≡ facts-size) where
+  pub facts-fit : 0 + length facts ≤ length store
+  facts-fit = omega arith
+
+  module _ (store′ : List ℕ) (e : store′ ≡ with-row store 0 facts) where
+    kept : Kept 0 facts-size store store′
+    kept = rw e (put-kept-of store 0 facts facts-fit facts-size wide)
+
+    put : facts-in store′ ≡ facts
+    put = rw e (put-part-of store 0 facts facts-fit facts-size wide)
+
+    pub still-long : length store′ ≡ store-size
+    still-long = kept .long ∙ long
+
+    module _ (store″ : List ℕ) (linked : Linked (links-in store″) facts count) (kept′ : Kept 71_680 store-size store′ store″) (r : Clashing) (clash : (names : List Bytes) → FirstClash names facts count r) where
+      pub facts-filled : FactsFilled facts count store store″ r
+      facts-filled =
+          record {
+            long = kept′ .long ∙ still-long;
+            facts-are = kept-part kept′ facts-size 0 (omega arith) ∙ put;
+            literals-are = kept-part kept′ 52_224 9_216 (omega arith) ∙ kept-behind kept 52_224 9_216 (omega arith);
+            rules-are = kept-part kept′ 10_240 61_440 (omega arith) ∙ kept-behind kept 10_240 61_440 (omega arith);
+            linked = linked;
+            clash = clash;
+          }

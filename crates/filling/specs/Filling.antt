@@ -14,13 +14,9 @@ use Rattle.clashes.specs.declared.Clashing.{Clashing}
 use Rattle.clashes.specs.Clashes.{FirstClash}
 use Rattle.program.specs.declared.ProgramRead.{ProgramRead}
 use Rattle.program.specs.Answer.{ReadsProgram}
-use Rattle.matching.specs.Store.{facts-in, literals-in, rules-in, links-in}
+use Rattle.store.specs.Store.{store-size, facts-in, literals-in, rules-in, links-in}
 
--- how many numbers the store has
-abbrev pub store-size : ℕ
-store-size = 102_400
-
--- and the part of the facts
+-- how many numbers the part of the facts has
 abbrev pub facts-size : ℕ
 facts-size = 9_216
 

@@ -1,40 +1,28 @@
 // The store filled: the rules of a program, the facts of a candidate, and the chains of the facts, each in its part.
 use clashes::Clashing;
 use clashes::first_clash;
-use matching::FACTS;
-use matching::LINKS;
-use matching::LITERALS;
-use matching::RULES;
-use matching::STORE;
 use program::ProgramRead;
 use program::read_program;
 use program::space::rule_table;
+use store::FACTS;
+use store::LINKS;
+use store::LITERALS;
+use store::RULES;
+use store::STORE;
+use store::links;
+use tables::row::put_row;
 ghost use mathlib.Core.Path.{_≡_};
 ghost use Prim.Native.Nat.{ℕ};
 ghost use lib.ListN.{length};
 ghost use Rattle.tables.specs.Stored.{Kept};
 ghost use Rattle.chains.specs.Links.{Linked};
 ghost use Rattle.program.specs.Rules.{rules-size};
-ghost use Rattle.matching.specs.Store.{facts-in, rules-in, links-in};
-ghost use Rattle.filling.specs.Filling.{store-size, facts-size, RulesFillable, RulesRead, RulesFilled, FactsFillable, FactsFilled};
-
-pub mod orders;
+ghost use Rattle.store.specs.Store.{store-size, links-in};
+ghost use Rattle.filling.specs.Filling.{RulesFillable, RulesRead, RulesFilled, FactsFillable, FactsFilled};
 
 // A store in which every number is zero.
 pub fn empty_store() -> [u64; STORE] {
     [0; STORE]
-}
-
-// The numbers of a slice, put into another of its length.
-fn copy(from: &[u64], to: &mut [u64])
-    requires { ⌜ length (now to) ≡ length (now from) ⌝ }
-    ensures { λ _. ⌜ now (to .exit) ≡ now (from .entry) ⌝ }
-{
-    let mut i = 0;
-    while i < to.len() {
-        to[i] = from[i];
-        i += 1;
-    }
 }
 
 // The program is read, with its literals in their part of the store and its rules beside it.
@@ -51,13 +39,6 @@ fn read_rules<'a>(
     read_program(program, output, names, rules, &mut store[LITERALS..RULES])
 }
 
-fn put_rules(rules: &[u64], store: &mut [u64])
-    requires { ⌜ (length (now store) ≡ store-size) × (length (now rules) ≡ rules-size) ⌝ }
-    ensures { λ _. ⌜ (rules-in (now (store .exit)) ≡ now (rules .entry)) × Kept 61_440 71_680 (now (store .entry)) (now (store .exit)) ⌝ }
-{
-    copy(rules, &mut store[RULES..LINKS]);
-}
-
 // The program is read: its literals stand in their part at once; its rules, which are read beside them, are put into theirs.
 pub fn fill_rules<'a>(
     program: &'a [u8],
@@ -70,20 +51,13 @@ pub fn fill_rules<'a>(
 {
     let mut rules = rule_table();
     let read = read_rules(program, output, names, &mut rules, store);
-    put_rules(&rules, store);
+    put_row(store, RULES, &rules);
     read
-}
-
-fn put_facts(facts: &[u64], store: &mut [u64])
-    requires { ⌜ (length (now store) ≡ store-size) × (length (now facts) ≡ facts-size) ⌝ }
-    ensures { λ _. ⌜ (facts-in (now (store .exit)) ≡ now (facts .entry)) × Kept 0 9_216 (now (store .entry)) (now (store .exit)) ⌝ }
-{
-    copy(facts, &mut store[FACTS..LITERALS]);
 }
 
 fn link_facts(facts: &[u64], predicates: &[u64], count: usize, store: &mut [u64])
     requires { ⌜ FactsFillable (now facts) (now predicates) count (now store) ⌝ }
-    ensures { λ _. ⌜ Linked (links-in (now (store .exit))) (now (facts .entry)) count × Kept 71_680 102_400 (now (store .entry)) (now (store .exit)) ⌝ }
+    ensures { λ _. ⌜ Linked (links-in (now (store .exit))) (now (facts .entry)) count × Kept 71_680 store-size (now (store .entry)) (now (store .exit)) ⌝ }
 {
     chains::build(facts, predicates, count, &mut store[LINKS..STORE]);
 }
@@ -93,7 +67,7 @@ pub fn fill_facts(facts: &[u64], predicates: &[u64], count: usize, store: &mut [
     requires { ⌜ FactsFillable (now facts) (now predicates) count (now store) ⌝ }
     ensures { λ r. ⌜ FactsFilled (now (facts .entry)) count (now (store .entry)) (now (store .exit)) r ⌝ }
 {
-    put_facts(facts, store);
+    put_row(store, FACTS, facts);
     link_facts(facts, predicates, count, store);
-    first_clash(facts, &store[LINKS..STORE], count)
+    first_clash(facts, links(store), count)
 }

@@ -30,14 +30,14 @@ use Rattle.derived_set.specs.declared.Derived.{Derived}
 use Rattle.derived_set.specs.Members.{places, holds, one-if, count, size}
 use Rattle.derived_set.proofs.Sizes.{count-most, count-all}
 use Rattle.reach.proofs.Graphs.{below-fact}
-use Rattle.matching.specs.Store.{facts-in, literals-in, rules-in}
+use Rattle.store.specs.Store.{facts-in, rules-in}
 use Rattle.matchings.specs.Tables.{Comparing}
 use Rattle.search.specs.declared.Scan.{Scan}
 use Rattle.search.specs.Searched.{stops, stopped, Stops}
 use Rattle.derivation.specs.declared.Limit.{Limit}
 use Rattle.derivation.specs.Rounds.{RoundsOf, rules-for, all-facts, Rounds}
 use Rattle.queue.proofs.Emptied.{cut-length}
-use Rattle.judge.specs.Judged.{said, Lent, NoneBehind, Judged, ShowsBroken, ShowsSet, Rejects, JudgedInRange, Judges, Copied}
+use Rattle.judge.specs.Judged.{said, Lent, NoneBehind, Judged, ShowsBroken, ShowsSet, Rejects, JudgedInRange, Copied}
 use Rattle.judge.specs.declared.Kind.the-variants.{OutOfRange, Unsatisfied, Accepted, Smaller}
 use Rattle.judge.specs.declared.Judgement.{Judgement}
 

@@ -1,10 +1,8 @@
 // The judgement over the store: refusal 8, or the verdict.
 use derived_set::Derived;
-use matching::FACTS;
-use matching::LITERALS;
-use matchings::positives::positives;
 use search::Scan;
 use search::first_stop;
+use store::positives;
 ghost use mathlib.Core.Path.{_≡_};
 ghost use mathlib.Core.Bool.{false};
 ghost use Prim.Native.Nat.{_≤_};
@@ -112,7 +110,7 @@ pub fn judge(
     requires { ⌜ Tables (now store) count total × (count ≤ length (now rounds)) ⌝ }
     ensures { λ j. ⌜ Judges (now (ranks .entry)) (now (store .entry)) count total (now (rounds .entry)) (now (rounds .exit)) j ⌝ }
 {
-    let most = magnitudes::largest(&store[FACTS..LITERALS], count);
+    let most = magnitudes::largest(store::facts(store), count);
     let mut positions = [0u64; 16];
     let over = first_stop(
         store,

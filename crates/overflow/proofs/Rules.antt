@@ -15,9 +15,9 @@ use Rattle.meaning.proofs.Safety.{scan-induction}
 use Rattle.codes.specs.Domains.{codes, code-in-range}
 use Rattle.tables.specs.Rows.{from, rule-column, literal-at, equation-at, equation-places, rule-at}
 use Rattle.tables.specs.WellFormed.{BodyRow, RuleRow}
-use Rattle.tables.proofs.Strides.{part-length}
 use Rattle.derived_set.specs.Members.{bit}
-use Rattle.matching.specs.Store.{literals-in, rules-in}
+use Rattle.store.specs.Store.{store-size, most-rows, literals-in, rules-in}
+use Rattle.store.proofs.Parts.{literals-long}
 use Rattle.matching.specs.Known.{values-in}
 use Rattle.matching.proofs.Masks.{kept-all}
 use Rattle.overflow.specs.Leaving.{Equations, Fresh, Completes, LeavesRange}
@@ -35,8 +35,8 @@ binding store r row = record { few = row .few-equations; row = row .equation }
 pub body-rows : (store : List ℕ) (r : ℕ) → RuleRow (rules-in store) (literals-in store) r → (first size : ℕ) → first ≡ rule-column (rules-in store) r 1 → size ≡ rule-column (rules-in store) r 2 → (l : ℕ) → first ≤ l → l < first + size → BodyRow (literals-in store) l
 body-rows store r row first size e f l p q = row .body l (rw e at p) (rw (e, f) at q)
 
-pub body-end : (store : List ℕ) (r : ℕ) → length store ≡ 102_400 → RuleRow (rules-in store) (literals-in store) r → (first size : ℕ) → first ≡ rule-column (rules-in store) r 1 → size ≡ rule-column (rules-in store) r 2 → first + size ≤ 4_352
-body-end store r long row first size e f = let n = part-length 52_224 9_216 store (omega (arith, long)) in omega (arith, row .within, n, e, f)
+pub body-end : (store : List ℕ) (r : ℕ) → length store ≡ store-size → RuleRow (rules-in store) (literals-in store) r → (first size : ℕ) → first ≡ rule-column (rules-in store) r 1 → size ≡ rule-column (rules-in store) r 2 → first + size ≤ most-rows
+body-end store r long row first size e f = omega (arith, row .within, literals-long store long, e, f)
 
 module _ (store : List ℕ) (r bound : ℕ) (values : List ℕ) (row : RuleRow (rules-in store) (literals-in store) r) where
   abbrev rule : Rule ℕ

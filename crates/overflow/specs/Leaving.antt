@@ -14,7 +14,7 @@ use Rattle.tables.specs.Layout.{terms-column, most-literals, equations-column}
 use Rattle.tables.specs.Rows.{literal-column, side-at, rule-at, rule-column, equation-places}
 use Rattle.tables.specs.WellFormed.{EquationRow}
 use Rattle.derived_set.specs.Members.{bit}
-use Rattle.matching.specs.Store.{literals-in, rules-in}
+use Rattle.store.specs.Store.{literals-in, rules-in}
 use Rattle.matching.specs.Known.{values-in, Kept}
 use Rattle.settle.specs.Settling.{Knowing}
 

@@ -13,7 +13,7 @@ use Rattle.meaning.proofs.Booleans.{same-or-not}
 use Rattle.derived_set.specs.Members.{one-if, count}
 use Rattle.derived_set.proofs.Sizes.{count-all}
 use Rattle.queue.specs.Places.{upto}
-use Rattle.queue.specs.Queue.{place, Queued, Fresh}
+use Rattle.queue.specs.Queue.{place, Fresh}
 use Rattle.search.specs.Searched.{AllTaken}
 
 -- the first k atoms have their places, and no other has one

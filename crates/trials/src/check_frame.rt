@@ -1,14 +1,14 @@
 // The frame `check CODE PLACES PROGRAM-LENGTH OUTPUT-LENGTH`: what the check answers, with a buffer of so many places.
 use crate::answer_line::report;
-use crate::frame::MOST_BYTES;
-use crate::frame::MOST_PLACES;
-use crate::frame::behind_word;
-use crate::frame::ends_with;
-use crate::frame::newline;
-use crate::frame::number_behind;
-use crate::frame::read_bytes;
 use crate::places::fill;
 use checker::check;
+use frames::MOST_BYTES;
+use frames::MOST_PLACES;
+use frames::behind_word;
+use frames::ends_with;
+use frames::newline;
+use frames::number_behind;
+use frames::read_bytes;
 use tokens::parts::part;
 use tokens::place_from;
 

@@ -1,14 +1,13 @@
 // Many cases in one run: reads frames from standard input until it ends, and writes an answer for each. A frame is a line of words
 // and numbers and the bytes that it announces; the run ends with the line BAD FRAME at one that is of no known form.
-use frame::MOST_LINE;
-use frame::begins_with;
-use frame::read_line;
-use frame::words;
+use frames::MOST_LINE;
+use frames::begins_with;
+use frames::read_line;
+use frames::words;
 use print::say;
 
 mod answer_line;
 mod check_frame;
-mod frame;
 mod places;
 mod plain_frame;
 mod print;

@@ -1,15 +1,15 @@
 // The frame `plain ROOM PROGRAM-LENGTH`: the program's plain form, written into a buffer of that room.
-use crate::frame::MOST_BYTES;
-use crate::frame::behind_word;
-use crate::frame::ends_with;
-use crate::frame::newline;
-use crate::frame::number_behind;
-use crate::frame::read_bytes;
 use crate::print::ending;
 use crate::print::number;
 use crate::print::place;
 use crate::print::refused;
 use crate::print::say;
+use frames::MOST_BYTES;
+use frames::behind_word;
+use frames::ends_with;
+use frames::newline;
+use frames::number_behind;
+use frames::read_bytes;
 use plain::Written;
 use plain::write_plain;
 use tokens::parts::part;

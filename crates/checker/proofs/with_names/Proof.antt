@@ -1,7 +1,6 @@
 -- `with_names` meets its contract: the program's stage, and then the stages behind it. Assumes nothing.
-use Rattle.checker.proofs.Programs.{program-refused, program-read}
-use Rattle.checker.proofs.Filling.{cut-at, program-readable, with-rules-held, room-for-facts}
-use Rattle.checker.proofs.Ways.{by-program, by-rules}
+use Rattle.checker.proofs.Filling.{cut-at, program-readable}
+use Rattle.checker.proofs.Rules.{rules-ready, rules-answer, refusal-answer}
 use borrow.Author.Needs.{needs}
 use Rattle.checker.proofs.with_names.Statement.{statement}
 use Rattle.checker.proofs.with_names.Tie as tie
@@ -10,25 +9,13 @@ fill-rules-requires : tie.Need-fill-rules-requires
 fill-rules-requires c κs = program-readable _ (c .before .before .before .before .before .before .before .before .before .args .output .now) _ _ (c .before .before .before .before .before .before .before .before .before .pre) _ (cut-at _ (c .before .before .part .ensures) (c .before .before .before .place-from .ensures)) (search needs)
 
 returns : tie.Need-returns
-returns c = by-program _ _ _ _ _ _ (program-refused _ _ _ _ _ _ _ _ _ (c .before .before .before .before .before .before .before .fill-rules .ensures .reads) (c .before .before .if1 .taken)) _ (c .refused .ensures)
+returns c = refusal-answer _ _ _ _ (c .before .before .before .before .before .before .before .before .before .before .before .before .before .before .before .before .before .pre) _ (cut-at _ (c .before .before .before .before .before .before .before .before .before .before .part .ensures) (c .before .before .before .before .before .before .before .before .before .before .before .place-from .ensures)) _ _ _ (c .before .before .before .before .before .before .before .fill-rules .ensures) _ _ (c .before .before .if1 .taken) _ (c .refused .ensures)
 
 reported-requires : tie.Need-reported-requires
-reported-requires c κs =
-    let read = program-read _ _ _ _ _ _ _ _ _ (c .before .before .before .before .before .before .before .before .fill-rules .ensures .reads) (c .before .before .before .if1 .left) in
-    let cut = cut-at _ (c .before .before .before .before .before .before .before .before .before .before .before .part .ensures) (c .before .before .before .before .before .before .before .before .before .before .before .before .place-from .ensures) in
-    record {
-      tree-of = read .tree-of;
-      long = c .before .before .before .before .before .before .before .before .fill-rules .ensures .long;
-      held = with-rules-held _ _ (read .tree-of) (read .stage) _ _ _ _ _ _ _ _ cut (read .fills);
-      room = room-for-facts _ _ (read .tree-of) (read .stage) _ _ _ _ _ _ _ _ cut (read .fills) (c .before .before .before .before .before .before .before .before .before .before .before .before .before .before .before .before .before .before .pre);
-    }
+reported-requires c κs = rules-ready _ _ _ _ (c .before .before .before .before .before .before .before .before .before .before .before .before .before .before .before .before .before .before .pre) _ (cut-at _ (c .before .before .before .before .before .before .before .before .before .before .before .part .ensures) (c .before .before .before .before .before .before .before .before .before .before .before .before .place-from .ensures)) _ _ _ (c .before .before .before .before .before .before .before .before .fill-rules .ensures) (c .before .before .before .if1 .left)
 
 returns-2 : tie.Need-returns-2
-returns-2 c =
-    let read = program-read _ _ _ _ _ _ _ _ _ (c .before .before .before .before .before .before .before .before .before .before .before .before .before .before .fill-rules .ensures .reads) (c .before .before .before .before .before .before .before .before .before .if1 .left) in
-    let cut = cut-at _ (c .before .before .before .before .before .before .before .before .before .before .before .before .before .before .before .before .before .part .ensures) (c .before .before .before .before .before .before .before .before .before .before .before .before .before .before .before .before .before .before .place-from .ensures) in
-    let held = with-rules-held _ _ (read .tree-of) (read .stage) _ _ _ _ _ _ _ _ cut (read .fills) in
-    by-rules _ _ _ _ (read .tree-of) (read .stage) _ _ (c .before .before .before .before .before .reported .ensures (read .tree-of) held)
+returns-2 c = rules-answer _ _ _ _ (c .before .before .before .before .before .before .before .before .before .before .before .before .before .before .before .before .before .before .before .before .before .before .before .before .pre) _ (cut-at _ (c .before .before .before .before .before .before .before .before .before .before .before .before .before .before .before .before .before .part .ensures) (c .before .before .before .before .before .before .before .before .before .before .before .before .before .before .before .before .before .before .place-from .ensures)) _ _ _ (c .before .before .before .before .before .before .before .before .before .before .before .before .before .before .fill-rules .ensures) _ _ (c .before .before .before .before .before .before .before .before .before .if1 .left) _ _ (c .before .before .before .before .before .reported .ensures)
 
 pub with-names-spec : {M : Type 1} → statement M
 with-names-spec =

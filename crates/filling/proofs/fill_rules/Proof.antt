@@ -1,15 +1,16 @@
 -- `fill_rules` meets its contract: the literals as they are read, then the rules. Assumes nothing.
-use Rattle.filling.proofs.Filled.{rules-filled}
+use mathlib.Core.Path.{_≡_}
+use lib.ListN.{length}
+use Rattle.filling.proofs.Filled.{rules-fit, rules-filled}
 use borrow.Author.Needs.{needs}
 use Rattle.filling.proofs.fill_rules.Statement.{statement}
 use Rattle.filling.proofs.fill_rules.Tie as tie
 
+put-row-requires : tie.Need-put-row-requires
+put-row-requires c κs = rules-fit _ _ _ _ _ _ _ _ _ (c .before .before .before .before .before .before .before .before .before .before .before .before .before .before .before .before .pre .long) (c .before .before .before .before .before .before .before .read-rules .ensures) (search needs)
+
 returns : tie.Need-returns
-returns c =
-    let put = c .before .before in
-    let read = put .before .before .before .before .before .before .before .before in
-    let start = read .before .before .before .before .before .before .before .before .before in
-    rules-filled _ _ _ _ _ _ _ _ _ _ (start .pre .long) (read .read-rules .ensures) (put .put-rules .ensures .0) (put .put-rules .ensures .1)
+returns c = rw (c .before .before .put-row .ensures) (rules-filled _ _ _ _ _ _ _ _ _ (c .before .before .before .before .before .before .before .before .before .before .before .before .before .before .before .before .before .before .before .pre .long) (c .before .before .before .before .before .before .before .before .before .before .read-rules .ensures) (search needs))
 
 pub fill-rules-spec : {M : Type 1} → statement M
 fill-rules-spec =
@@ -19,7 +20,7 @@ fill-rules-spec =
     (λ c. search needs)
     (λ c κs. search needs)
     (λ c. search needs)
-    (λ c κs. search needs)
+    put-row-requires
     (λ c. search needs)
     (λ c. search needs)
     returns)

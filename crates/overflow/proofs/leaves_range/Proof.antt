@@ -21,20 +21,17 @@ rule-column-requires-2 c κs = (c .before .before .before .before .before .befor
 rule-column-requires-3 : tie.Need-rule-column-requires-3
 rule-column-requires-3 c κs = (c .before .before .before .before .before .before .before .before .before .pre .0, c .before .before .before .before .before .before .before .before .before .pre .1, lit< tt)
 
-part-any-leaves-end : tie.Need-part-any-leaves-end
-part-any-leaves-end c = let long = c .before .before .before .before .before .before .before .before .before .before .pre .0 in omega (arith, long)
-
 add-any-leaves : tie.Need-add-any-leaves
 add-any-leaves c = let end = body-end (c .before .before .before .before .before .before .before .before .before .before .before .args .store .now) (c .before .before .before .before .before .before .before .before .before .before .before .args .r) (c .before .before .before .before .before .before .before .before .before .before .before .pre .0) (c .before .before .before .before .before .before .before .before .before .before .before .pre .2) _ _ (c .before .before .rule-column2 .ensures) (c .before .rule-column3 .ensures) in omega (arith, end)
 
 any-leaves-requires : tie.Need-any-leaves-requires
-any-leaves-requires c κs = (body-rows (c .before .before .before .before .before .before .before .before .before .before .before .before .args .store .now) (c .before .before .before .before .before .before .before .before .before .before .before .before .args .r) (c .before .before .before .before .before .before .before .before .before .before .before .before .pre .2) _ _ (c .before .before .before .rule-column2 .ensures) (c .before .before .rule-column3 .ensures), c .before .before .before .before .before .before .complete-rule .ensures .adds .knowing)
+any-leaves-requires c κs = (rw (c .before .literals .ensures) (body-rows (c .before .before .before .before .before .before .before .before .before .before .before .before .args .store .now) (c .before .before .before .before .before .before .before .before .before .before .before .before .args .r) (c .before .before .before .before .before .before .before .before .before .before .before .before .pre .2) _ _ (c .before .before .before .rule-column2 .ensures) (c .before .before .rule-column3 .ensures)), c .before .before .before .before .before .before .complete-rule .ensures .adds .knowing)
 
 same-length : tie.Need-same-length
 same-length c = c .before .before .before .before .before .before .before .complete-rule .ensures .adds .kept .long
 
 returns-2 : tie.Need-returns-2
-returns-2 c = operations-leave (c .before .before .before .before .before .before .before .before .before .before .before .before .before .args .store .now) (c .before .before .before .before .before .before .before .before .before .before .before .before .before .args .r) (c .before .before .before .before .before .before .before .before .before .before .before .before .before .args .bound) (c .before .before .before .before .before .before .before .before .before .before .before .before .before .args .values .now) (c .before .before .before .before .before .before .before .before .before .before .before .before .before .pre .2) _ _ (c .before .before .before .before .before .before .before .complete-rule .ensures) _ _ (c .before .before .before .before .rule-column2 .ensures) (c .before .before .before .rule-column3 .ensures) _ (c .any-leaves .ensures)
+returns-2 c = operations-leave (c .before .before .before .before .before .before .before .before .before .before .before .before .before .args .store .now) (c .before .before .before .before .before .before .before .before .before .before .before .before .before .args .r) (c .before .before .before .before .before .before .before .before .before .before .before .before .before .args .bound) (c .before .before .before .before .before .before .before .before .before .before .before .before .before .args .values .now) (c .before .before .before .before .before .before .before .before .before .before .before .before .before .pre .2) _ _ (c .before .before .before .before .before .before .before .complete-rule .ensures) _ _ (c .before .before .before .before .rule-column2 .ensures) (c .before .before .before .rule-column3 .ensures) _ (rw (c .before .before .literals .ensures) at (c .any-leaves .ensures))
 
 pub leaves-range-spec : {M : Type 1} → statement M
 leaves-range-spec =
@@ -45,9 +42,7 @@ leaves-range-spec =
     complete-rule-requires
     rule-column-requires-2
     rule-column-requires-3
-    (λ c. search needs)
-    (λ c. search needs)
-    part-any-leaves-end
+    (λ c κs. search needs)
     add-any-leaves
     any-leaves-requires
     same-length

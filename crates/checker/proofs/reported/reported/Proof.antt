@@ -1,8 +1,6 @@
 -- `reported` meets its contract: its ways are those of the stages, one after the other. Assumes nothing.
-use Rattle.grammar.specs.Abstraction.{rules-for}
-use Rattle.output.proofs.Uses.{handed-on, output-answers}
-use Rattle.checker.proofs.Filling.{tables-lent, facts-fillable, has-place, placed, in-store, faulty, with-facts-ready}
-use Rattle.checker.proofs.Ways.{by-output, by-code, by-none, by-unknown, by-candidate}
+use Rattle.checker.proofs.Facts.{tables-lent, puttable, candidate-ready, candidate-answer}
+use Rattle.checker.proofs.Ways.{by-output, by-code, by-none, by-unknown}
 use borrow.Author.Needs.{needs}
 use Rattle.checker.proofs.reported.reported.Statement.{statement}
 use Rattle.checker.proofs.reported.reported.Tie as tie
@@ -16,35 +14,17 @@ returns c = λ d held. by-output _ _ _ _ d _ (c .before .before .before .before 
 returns-2 : tie.Need-returns-2
 returns-2 c = λ d held. by-code _ _ _ _ d _ (c .before .before .before .before .before .before .before .before .before .before .before .before .read-output .ensures .given) (c .before .before .before .if1 .left) _ (c .before .before .agrees .ensures) (c .before .if2 .taken) _ (c .refused2 .ensures)
 
-fill-facts-requires : tie.Need-fill-facts-requires
-fill-facts-requires c κs =
-    let read = c .before .before .before .before .before .before .before .before .before .before .before .before .before .before .before .before .read-output .ensures in
-    let x = output-answers _ _ _ _ _ read (c .before .before .before .before .before .before .before .if1 .left) (c .before .before .before .enum-told .given .1) in
-    facts-fillable _ _ _ (x .tree-of) _ _ _ (x .held) _ (c .before .before .before .before .before .before .before .before .before .before .before .before .before .before .before .before .before .before .before .before .before .before .before .before .before .before .before .before .pre .long) (search needs)
-
-fault-of-requires : tie.Need-fault-of-requires
-fault-of-requires c κs =
-    let read = c .before .before .before .before .before .before .before .before .before .before .before .before .before .before .before .before .before .before .before .before .before .read-output .ensures in
-    let x = output-answers _ _ _ _ _ read (c .before .before .before .before .before .before .before .before .before .before .before .before .if1 .left) (c .before .before .before .before .before .before .before .before .enum-told .given .1) in
-    has-place _ _ _ (x .tree-of) _ _ _ (x .held) (search needs) (search needs) _ (c .before .before .before .before .fill-facts .ensures .clash)
+put-facts-requires : tie.Need-put-facts-requires
+put-facts-requires c κs = puttable _ _ _ _ _ (c .before .before .before .before .before .before .before .before .before .before .before .before .before .before .before .before .before .before .read-output .ensures) (c .before .before .before .before .before .before .before .before .before .if1 .left) (c .before .before .before .before .before .enum-told .given .1) _ (c .before .before .before .before .before .before .before .before .before .before .before .before .before .before .before .before .before .before .before .before .before .before .before .before .before .before .before .before .before .before .pre .long) (search needs) (search needs) (search needs)
 
 with-facts-requires : tie.Need-with-facts-requires
-with-facts-requires c κs =
-    let read = c .before .before .before .before .before .before .before .before .before .before .before .before .before .before .before .before .before .before .before .before .before .before .before .before .before .read-output .ensures in
-    let x = output-answers _ _ _ _ _ read (c .before .before .before .before .before .before .before .before .before .before .before .before .before .before .before .before .if1 .left) (c .before .before .before .before .before .before .before .before .before .before .before .before .enum-told .given .1) in
-    with-facts-ready _ _ _ (x .tree-of) _ _ _ (x .held) _ _ _ (c .before .before .before .before .before .before .before .before .fill-facts .ensures) _ (rules-for (c .before .before .before .before .before .before .before .before .before .before .before .before .before .before .before .before .before .before .before .before .before .before .before .before .before .before .before .before .before .before .before .before .before .before .before .before .before .pre .tree-of)) (c .before .before .before .before .before .before .before .before .before .before .before .before .before .before .before .before .before .before .before .before .before .before .before .before .before .before .before .before .before .before .before .before .before .before .before .before .before .pre .held (handed-on _ (x .stage) .size)) _ (c .before .before .before .fault-of .ensures .0)
+with-facts-requires c κs = candidate-ready _ _ _ _ _ (c .before .before .before .before .before .before .before .before .before .before .before .before .before .before .before .before .before .before .before .before .before .before .before .before .read-output .ensures) (c .before .before .before .before .before .before .before .before .before .before .before .before .before .before .before .if1 .left) (c .before .before .before .before .before .before .before .before .before .before .before .enum-told .given .1) _ _ _ (c .before .before .before .before .before .put-facts .ensures) _ (c .before .before .before .before .before .before .before .before .before .before .before .before .before .before .before .before .before .before .before .before .before .before .before .before .before .before .before .before .before .before .before .before .before .before .before .before .pre)
 
 same-length-3 : tie.Need-same-length-3
-same-length-3 c = search (needs, c .before .before .before .before .before .before .before .before .before .before .before .before .before .before .before .before .before .before .before .before .before .before .before .before .before .before .before .names .given)
+same-length-3 c = search (needs, c .before .before .before .before .before .before .before .before .before .before .before .before .before .before .before .before .before .before .before .before .before .before .before .before .before .before .names .given)
 
 returns-3 : tie.Need-returns-3
-returns-3 c = λ d held.
-    let read = c .before .before .before .before .before .before .before .before .before .before .before .before .before .before .before .before .before .before .before .before .before .before .before .before .before .before .before .before .read-output .ensures in
-    let x = output-answers _ _ _ _ _ read (c .before .before .before .before .before .before .before .before .before .before .before .before .before .before .before .before .before .before .before .if1 .left) (c .before .before .before .before .before .before .before .before .before .before .before .before .before .before .before .enum-told .given .1) in
-    let stands = in-store _ _ _ (x .tree-of) _ _ _ (x .held) _ _ _ (c .before .before .before .before .before .before .before .before .before .before .before .fill-facts .ensures) _ (rules-for d) (held (handed-on _ (x .stage) .size)) in
-    let fault = faulty _ _ _ (x .tree-of) _ _ _ (x .held) _ _ _ (c .before .before .before .before .before .before .before .before .before .before .before .fill-facts .ensures) _ _ (c .before .before .before .before .before .before .fault-of .ensures .0) in
-    let there = placed _ _ _ (x .tree-of) _ _ _ (x .held) _ (c .before .before .before .before .before .before .before .before .before .before .before .fill-facts .ensures .clash) _ (c .before .before .before .before .before .before .fault-of .ensures .1) in
-    by-candidate _ _ _ _ d _ (read .given) (c .before .before .before .before .before .before .before .before .before .before .before .before .before .before .before .before .before .before .before .if1 .left) _ (c .before .before .before .before .before .before .before .before .before .before .before .before .before .before .before .before .before .before .agrees .ensures) (c .before .before .before .before .before .before .before .before .before .before .before .before .before .before .before .before .before .if2 .left) (c .before .before .before .before .before .before .before .before .before .before .before .before .before .before .before .enum-told .given .1) _ (x .tree-of) (x .stage) _ _ (c .before .before .with-facts .ensures (x .line) _ _ stands _ fault there)
+returns-3 c = λ d held. candidate-answer _ _ _ _ _ (c .before .before .before .before .before .before .before .before .before .before .before .before .before .before .before .before .before .before .before .before .before .before .before .before .before .before .before .read-output .ensures) (c .before .before .before .before .before .before .before .before .before .before .before .before .before .before .before .before .before .before .if1 .left) (c .before .before .before .before .before .before .before .before .before .before .before .before .before .before .enum-told .given .1) _ _ _ (c .before .before .before .before .before .before .before .before .put-facts .ensures) _ _ _ d held _ (c .before .before .before .before .before .before .before .before .before .before .before .before .before .before .before .before .before .agrees .ensures) (c .before .before .before .before .before .before .before .before .before .before .before .before .before .before .before .before .if2 .left) _ _ (c .before .before .with-facts .ensures)
 
 returns-4 : tie.Need-returns-4
 returns-4 c = λ d held. by-none _ _ _ _ d _ (c .before .before .before .before .before .before .before .before .before .before .before .before .before .before .read-output .ensures .given) (c .before .before .before .before .before .if1 .left) _ (c .before .before .before .before .agrees .ensures) (c .before .before .before .if2 .left) (c .before .enum-told2 .given .1) _ (c .claimed .ensures)
@@ -72,10 +52,9 @@ reported-spec =
     (λ c. search needs)
     (λ c. search needs)
     (λ c. search needs)
-    fill-facts-requires
     (λ c. search needs)
     (λ c. search needs)
-    fault-of-requires
+    put-facts-requires
     with-facts-requires
     (λ c. search needs)
     (λ c κs. search needs)

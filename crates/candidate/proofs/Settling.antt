@@ -1,0 +1,106 @@
+-- What tables that stand for a program and a candidate give: facts apart, and the answer of the last stages.
+use mathlib.Core.Path.{_≡_, sym, _∙_}
+use mathlib.Core.List.{List}
+use Prim.Native.Nat.{ℕ, zero, suc, _-_, _≤_, _<_}
+use native.Mathlib.Omega.{arith}
+use lib.ListN.{length, take, drop, length-take}
+use Rattle.meaning.specs.Rules.{Bytes, Fact, Rule}
+use Rattle.meaning.specs.Values.{Value, values, in-range}
+use Rattle.meaning.specs.Outcomes as meant
+use Rattle.codes.proofs.Pairwise.{same-length}
+use Rattle.codes.proofs.Outcomes.{coded-answers}
+use Rattle.names.proofs.Firsts.{length-first}
+use Rattle.names.specs.Table.{count, name-at, names-of, Table}
+use Rattle.tables.specs.Rows.{fact-at, facts-of, rule-at, rules-of}
+use Rattle.tables.specs.WellFormed.{RuleRow, RuleTable}
+use Rattle.tables.proofs.Strides.{from-length}
+use Rattle.store.specs.Store.{facts-in, literals-in, rules-in}
+use Rattle.matchings.specs.Tables.{Tables, Comparing}
+use Rattle.ranks.specs.Ranks.{Ranked}
+use Rattle.orders.specs.Orders.{PlainRule, RulesInside}
+use Rattle.judge.specs.declared.Judgement.{Judgement}
+use Rattle.judge.specs.Judged.{said, Judged}
+use Rattle.promise.specs.Answered.{rule-part}
+use Rattle.promise.specs.Judged.{Settled}
+use Rattle.fields.specs.Checked.{Answers}
+use Rattle.fields.specs.declared.answer.Answer.{Answer}
+use Rattle.verdict.specs.Told.{Small, Tells}
+use Rattle.candidate.specs.declared.settled.Counts.{Counts}
+use Rattle.candidate.specs.Standing.{Stands, Settling}
+use Rattle.candidate.proofs.Clashing.{facts-apart}
+use Rattle.candidate.proofs.Judging.{told}
+use Rattle.candidate.proofs.Bounds.{small}
+
+module _ (program output : Bytes) (names rules literals facts links : List ℕ) (count total : ℕ) where
+  module _ (P : List (Rule Value)) (I : List (Fact Value)) (s : Stands program output names rules literals facts links count total P I) where
+    facts-long : length (facts-of facts count) ≡ count
+    facts-long = from-length (fact-at facts) count 0
+
+    few-facts : length I ≤ 1_024
+    few-facts = omega (arith, same-length (s .held .facts-stand), facts-long, s .held .fact-table .few)
+
+    few-rules : length P ≤ 1_024
+    few-rules = omega (arith, same-length (s .held .rules-held .rules-stand), from-length (rule-at rules literals) total 0, s .held .rules-held .rule-table .few)
+
+    module _ (old new : List ℕ) (room : count ≤ length old) (j : Judgement) (judged : Judged (names-of program output names) (rules-of rules literals total) (facts-of facts count) old new j) where
+      answers : meant.Answers values in-range P I (said (j .kind) j (length (facts-of facts count)) new)
+      answers = coded-answers (names-of program output names) (s .held .rules-held .name-table .distinct) (s .held .rules-held .rules-stand) (s .held .facts-stand) (s .held .rules-held .safe-rules) _ .1 (sym (judged .says))
+
+      pub room-to-count : length (j .positions) ≡ 16 → Small j
+      room-to-count wide = small P I few-rules few-facts j (length (facts-of facts count)) new wide answers
+
+      pub gives : (a : Answer) → Tells program j count (j .kind) a → Answers (Settled (rule-part program) P I old) old a new
+      gives a t =
+          told program P I old new j count room (s .held .fact-table .few) (j .kind)
+          (rw facts-long at answers)
+          (rw facts-long at (judged .lent))
+          (rw facts-long at (judged .none-behind))
+          a t
+
+-- ---- the premises of `judge`, of ranks, and of the look for comparisons
+
+module _ (program output : Bytes) (names store : List ℕ) (n : Counts) (places : List ℕ) (s : Settling program output names store n places) where
+  abbrev rules-table : RuleTable (rules-in store) (literals-in store) (n .rules)
+  rules-table = s .stands .held .rules-held .rule-table
+
+  rules-long : length (rules-in store) ≤ 10_240
+  rules-long = omega (arith, length-take 10_240 (drop 61_440 store))
+
+  literals-long : length (literals-in store) ≤ 52_224
+  literals-long = omega (arith, length-take 52_224 (drop 9_216 store))
+
+  few-rows : (total : ℕ) → ((r : ℕ) → r < total → RuleRow (rules-in store) (literals-in store) r) → total ≤ 256
+  few-rows zero row = omega arith
+  few-rows (suc k) row = omega (arith, row k (omega arith) .inside, rules-long)
+
+  few : n .rules ≤ 256
+  few = few-rows (n .rules) (rules-table .rule)
+
+  pub rules-inside : RulesInside store (n .rules)
+  rules-inside = record { long = s .long; few = few; body = λ r h. omega (arith, rules-table .rule r h .within, literals-long) }
+
+  pub tables : Tables store (n .facts) (n .rules)
+  tables =
+      record {
+        long = s .long;
+        few = few;
+        rule-table = rules-table;
+        fact-table = s .stands .held .fact-table;
+        linked = s .stands .linked;
+        apart = facts-apart (names-of program output names) (s .stands .held .rules-held .name-table .distinct) (facts-in store) (n .facts) (s .candidate) (s .stands .held .facts-stand) (s .unclashing);
+      }
+
+  pub names-long : (name-table : Table program output names) → (count names ≤ 131_072) × (count names ≤ length names) × (length (names-of program output names) ≡ count names)
+  names-long t = (omega (arith, t .room), omega (arith, t .room, t .size), length-first (name-at program output names) (count names))
+
+  -- ranks where they have the order of the names
+  pub comparing-ranked : (ranks : List ℕ) → Ranked (names-of program output names) ranks → Comparing (names-of program output names) ranks store (n .rules)
+  comparing-ranked ranks r = record { distinct = s .stands .held .rules-held .name-table .distinct; each = r .each; ranked = λ _ _ _ _ _. r }
+
+  -- any numbers where no rule asks for an order
+  pub comparing-plain : (ranks : List ℕ) → length ranks ≡ count names → PlainRule store (n .rules) → Comparing (names-of program output names) ranks store (n .rules)
+  comparing-plain ranks e p = record { distinct = s .stands .held .rules-held .name-table .distinct; each = e ∙ sym (names-long (s .stands .held .rules-held .name-table) .2); ranked = λ r l h b more. absurd (omega (arith, p .each r l h b)) }
+
+  -- as many numbers as names, cut from the table of names
+  pub names-cut : length (take (count names - 0) (drop 0 names)) ≡ count names
+  names-cut = omega (arith, length-take (count names - 0) names, names-long (s .stands .held .rules-held .name-table) .1)

@@ -1,0 +1,16 @@
+-- `put_facts` meets its contract: a fact that clashes is one of those that have their place. Assumes nothing.
+use mathlib.Core.List.{[]}
+use native.Mathlib.Omega.{arith}
+use borrow.Author.Needs.{needs}
+use Rattle.candidate.proofs.put_facts.Statement.{statement}
+use Rattle.candidate.proofs.put_facts.Tie as tie
+
+fault-of-requires : tie.Need-fault-of-requires
+fault-of-requires c κs = λ z. let here = c .before .before .fill-facts .ensures .clash [] .here z .0 in (omega (arith, c .before .before .before .before .before .before .before .before .before .pre .1), omega (arith, c .before .before .before .before .before .before .before .before .before .pre .2))
+
+returns : tie.Need-returns
+returns c = record { clash = c .before .before .before .fill-facts .result; filled = c .before .before .before .fill-facts .ensures; numbered = c .fault-of .ensures .0; placed = c .fault-of .ensures .1 }
+
+pub put-facts-spec : {M : Type 1} → statement M
+put-facts-spec =
+    tie.close (tie.spec (λ c κs. search needs) fault-of-requires (λ c. search needs) returns)
