@@ -1,7 +1,7 @@
 -- What the function that reads arguments returns. The loop's invariant: the numbers so far stand for the terms that have been read as far
 -- as here.
 use mathlib.Core.Path.{_≡_, refl, ap, _∙_, sym as inv}
-use mathlib.Core.Bool.{true, false, true≢false, false≢true}
+use mathlib.Core.Bool.{Bool, true, false, true≢false, false≢true}
 use mathlib.Core.List.{List, [], _∷_, _++_}
 use Prim.Native.Nat.{ℕ, suc, _+_, _-_, _≤_, _<_}
 use native.Mathlib.Omega.{arith}
@@ -47,15 +47,15 @@ use Rattle.names.specs.Table.{names-of}
 use Rattle.rows.specs.Growth.{Grows}
 use Rattle.rows.specs.Coding.{CodedTerm, CodedTerms, Codes}
 use Rattle.rows.proofs.Growth.{grows-none, grows-then, keeps-term}
-use Rattle.atoms.specs.declared.cursor.Cursor.{Cursor}
-use Rattle.atoms.specs.declared.term.TermRead.{TermRead}
+use Rattle.terms.specs.declared.cursor.Cursor.{Cursor}
+use Rattle.terms.specs.declared.term.TermRead.{TermRead}
+use Rattle.terms.specs.Cursors.{ReadyCursor, met-before, onward}
+use Rattle.terms.specs.Terms.{ReadsTerm}
+use Rattle.terms.proofs.Readiness.{met-fits, fits-met, ready-on, codes-wider}
 use Rattle.atoms.specs.declared.arguments.ArgumentsRead.{ArgumentsRead}
-use Rattle.atoms.specs.Cursors.{Ready, met-before}
-use Rattle.atoms.specs.Terms.{ReadsTerm}
 use Rattle.atoms.specs.Arguments.{ReadsArguments, goneArguments}
-use Rattle.atoms.proofs.Readiness.{met-fits, fits-met, ready-on, codes-wider}
 
-module _ (program output text : Bytes) (names variables : List ℕ) (k : Cursor) (ready : Ready program output text names variables k) (t : TokenRead) (et : t ≡ tokenRead (k .ground) text (k .at)) where
+module _ (program output text : Bytes) (names variables : List ℕ) (k : Cursor) (ready : ReadyCursor program output text names variables k) (t : TokenRead) (et : t ≡ tokenRead (k .ground) text (k .at)) where
   -- `()`
   pub arguments-none : t .kind ≡ 6 → (codes : List ℕ) (r : ArgumentsRead) → r ≡ goneArguments codes 0 (t .next) (k .met) → ReadsArguments program output text names variables k r names variables
   unfolding moves try fire either when token-of symbol-number token-number too-big too-long too-many too-many-variables is-underscore meet meet-symbol met spell-arguments arguments-for
@@ -63,7 +63,7 @@ module _ (program output text : Bytes) (names variables : List ℕ) (k : Cursor)
 
 -- the cursor where the next argument stands
 abbrev pub at-argument : Cursor → ℕ → ℕ → ℕ → Cursor
-at-argument k at met n = record { base = k .base; at = at; ground = k .ground; over = leb 8 n; met = met }
+at-argument k at met n = onward k at (leb 8 n) met
 
 pub record Going (program output text : Bytes) (names₀ variables₀ : List ℕ) (k : Cursor) (names variables : List ℕ) (at met₁ : ℕ) (codes : List ℕ) (n : ℕ) : Type 0 where
   pub fits : Fits (places-in variables met₁)
@@ -80,7 +80,7 @@ pub record Going (program output text : Bytes) (names₀ variables₀ : List ℕ
   pub variables-met : met (variables-of text (met-before variables₀ k)) (with-commas spell-argument terms) ≡ variables-of text (places-in variables met₁)
   pub walks : (h : ArgumentsPlace (k .ground)) → from (k .ground) text (wants (opened (h .context) (h .negative) (h .name))) (met-before variables₀ k) (k .at) ≡ from (k .ground) text (wants (term-wanted (argument-in (h .context) (h .negative) (h .name) terms))) (places-in variables met₁) at
 
-pub going-start : (program output text : Bytes) (names variables : List ℕ) (k : Cursor) → Ready program output text names variables k → (t : TokenRead) → t ≡ tokenRead (k .ground) text (k .at) → (t .kind ≡ 6 → ⊥) → (codes : List ℕ) → length codes ≡ 8 → Going program output text names variables k names variables (k .at) (k .met) codes 0
+pub going-start : (program output text : Bytes) (names variables : List ℕ) (k : Cursor) → ReadyCursor program output text names variables k → (t : TokenRead) → t ≡ tokenRead (k .ground) text (k .at) → (t .kind ≡ 6 → ⊥) → (codes : List ℕ) → length codes ≡ 8 → Going program output text names variables k names variables (k .at) (k .met) codes 0
 unfolding step finished count terms-for met with-commas
 going-start program output text names variables k ready t et ne codes eight =
     record {
@@ -104,8 +104,8 @@ module _ (program output text : Bytes) (names₀ variables₀ : List ℕ) (k : C
   v₀ = met-before variables₀ k
 
   -- there is room behind what has been read
-  pub going-ready : Ready program output text names₀ variables₀ k → Ready program output text names variables (at-argument k at met₁ n)
-  going-ready ready = ready-on ready (at-argument k at met₁ n) refl (g .grows) (g .onward) (g .within-text) (fits-met variables met₁ (g .fits)) (g .long)
+  pub going-ready : ReadyCursor program output text names₀ variables₀ k → (over : Bool) → ReadyCursor program output text names variables (onward k at over met₁)
+  going-ready ready over = ready-on ready (onward k at over met₁) refl (g .grows) (g .onward) (g .within-text) (fits-met variables met₁ (g .fits)) (g .long)
 
   module _ (r : TermRead) (names′ variables′ : List ℕ) (gr : ReadsTerm program output text names variables (at-argument k at met₁ n) r names′ variables′) where
     place : ArgumentsPlace (k .ground) → TermPlace (k .ground) (leb 8 n)

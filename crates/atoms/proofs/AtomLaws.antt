@@ -24,40 +24,36 @@ use Rattle.rows.specs.Growth.{Grows}
 use Rattle.rows.specs.Coding.{Codes}
 use Rattle.rows.proofs.Growth.{grows-none, grows-interned, grows-then}
 use Rattle.rows.proofs.Atoms.{atom-coded}
-use Rattle.atoms.specs.declared.cursor.Cursor.{Cursor}
+use Rattle.terms.specs.declared.cursor.Cursor.{Cursor}
+use Rattle.terms.specs.Cursors.{ReadyCursor, met-before}
+use Rattle.terms.proofs.Readiness.{behind-token, met-fits, ready-on, codes-wider}
 use Rattle.atoms.specs.declared.arguments.ArgumentsRead.{ArgumentsRead}
 use Rattle.atoms.specs.declared.atom.AtomRead.{AtomRead}
 use Rattle.atoms.specs.declared.atom.SignedName.{SignedName}
-use Rattle.atoms.specs.Cursors.{Ready, ReadyAtom, met-before}
 use Rattle.atoms.specs.Arguments.{ReadsArguments}
-use Rattle.atoms.specs.Atoms.{NameStands, ReadsNamed, ReadsMinus, ReadsAtom, stoppedAtom, goneAtom}
-use Rattle.atoms.proofs.Readiness.{met-fits, ready-on, codes-wider}
+use Rattle.atoms.specs.Atoms.{ReadyAtom, NameStands, ReadsNamed, ReadsMinus, ReadsAtom, stoppedAtom, goneAtom}
 
 -- the caller has looked at the token: a head begins there
-pub ready-head : (program output text : Bytes) (names variables : List ℕ) (k : Cursor) → Ready program output text names variables k → (ground : Bool) → k .ground ≡ ground → (t : TokenRead) → t ≡ tokenRead ground text (k .at) → (t .kind ≡ 9 → ⊥) → (t .kind ≡ 20 → ⊥) → ReadyAtom program output text names variables k
+pub ready-head : (program output text : Bytes) (names variables : List ℕ) (k : Cursor) → ReadyCursor program output text names variables k → (ground : Bool) → k .ground ≡ ground → (t : TokenRead) → t ≡ tokenRead ground text (k .at) → (t .kind ≡ 9 → ⊥) → (t .kind ≡ 20 → ⊥) → ReadyAtom program output text names variables k
 ready-head program output text names variables k ready ground eg t et n e = record { ready = ready; begun = λ h. ((λ q. n (same ∙ q)), (λ q. e (same ∙ q))) }
   where
     same : t .kind ≡ tokenRead (k .ground) text (k .at) .kind
     same = ap (λ (u : TokenRead). u .kind) et ∙ ap (λ (g : Bool). tokenRead g text (k .at) .kind) (inv eg)
 
--- the cursor behind a token
-abbrev pub behind-token : Cursor → TokenRead → Cursor
-behind-token k t = record { base = k .base; at = t .next; ground = k .ground; over = false; met = k .met }
-
 arguments-few : (program output text : Bytes) (names variables : List ℕ) (k : Cursor) (w : ArgumentsRead) (names′ variables′ : List ℕ) → ReadsArguments program output text names variables k w names′ variables′ → w .progress .code ≡ 0 → w .count ≤ 8
 arguments-few program output text names variables k w names′ variables′ (read c b n o f x s m q) e = s .coded .few
 arguments-few program output text names variables k w names′ variables′ (stopped c q) e = absurd (omega arith)
 
-module _ (program output text : Bytes) (names variables : List ℕ) (k : Cursor) (ready : Ready program output text names variables k) (t : TokenRead) (et : t ≡ tokenRead (k .ground) text (k .at)) where
+module _ (program output text : Bytes) (names variables : List ℕ) (k : Cursor) (ready : ReadyCursor program output text names variables k) (t : TokenRead) (et : t ≡ tokenRead (k .ground) text (k .at)) where
   abbrev v : List Place
   v = met-before variables k
 
-  onward : (n : ℕ) → t .kind ≡ n → (n ≡ 20 → ⊥) → k .at < t .next
-  onward n ek nk = forward (k .ground) text (k .at) t et (λ q. nk (inv ek ∙ q))
+  ahead : (n : ℕ) → t .kind ≡ n → (n ≡ 20 → ⊥) → k .at < t .next
+  ahead n ek nk = forward (k .ground) text (k .at) t et (λ q. nk (inv ek ∙ q))
 
   -- behind a token there is room too
-  pub ready-behind : (n : ℕ) → t .kind ≡ n → (n ≡ 20 → ⊥) → Ready program output text names variables (behind-token k t)
-  ready-behind n ek nk = ready-on ready (behind-token k t) refl (grows-none program output names _ (ready .room .in-order)) (let l = onward n ek nk in omega arith) (within (k .ground) text (k .at) t et) (ready .few) refl
+  pub ready-behind : (n : ℕ) → t .kind ≡ n → (n ≡ 20 → ⊥) → ReadyCursor program output text names variables (behind-token k t)
+  ready-behind n ek nk = ready-on ready (behind-token k t) refl (grows-none program output names _ (ready .room .in-order)) (let l = ahead n ek nk in omega arith) (within (k .ground) text (k .at) t et) (ready .few) refl
 
   -- ---- behind a name
 
@@ -80,17 +76,17 @@ module _ (program output text : Bytes) (names variables : List ℕ) (k : Cursor)
 
   module _ (ek : t .kind ≡ 0) (names₁ : List ℕ) (i : ℕ) (interned : Interns program output names (part text (t .place)) names₁ (At i)) where
     grows-name : Grows program output names (t .next - k .at) names₁
-    grows-name = grows-then program output (grows-interned program output names _ names₁ i interned) _ (grows-none program output names₁ 0 (interned .0)) (let l = onward 0 ek (λ z. omega arith) in omega arith)
+    grows-name = grows-then program output (grows-interned program output names _ names₁ i interned) _ (grows-none program output names₁ 0 (interned .0)) (let l = ahead 0 ek (λ z. omega arith) in omega arith)
 
-    pub ready-named : Ready program output text names₁ variables (behind-token k t)
-    ready-named = ready-on ready (behind-token k t) refl grows-name (let l = onward 0 ek (λ z. omega arith) in omega arith) (within (k .ground) text (k .at) t et) (ready .few) refl
+    pub ready-named : ReadyCursor program output text names₁ variables (behind-token k t)
+    ready-named = ready-on ready (behind-token k t) refl grows-name (let l = ahead 0 ek (λ z. omega arith) in omega arith) (within (k .ground) text (k .at) t et) (ready .few) refl
 
     pub name-stands : NameStands program output names₁ i (part text (t .place))
     name-stands = grown-coded-name _ _ _ i (interned .1)
 
     -- what stands beside the names behind it stands beside those before it too
     pub with-name : (next : ℕ) → t .next ≤ next → {C : List Bytes → Type 0} {names₂ : List ℕ} → Codes program output names₁ (next - t .next) C names₂ → Codes program output names (next - k .at) C names₂
-    with-name next l h = record { grows = grows-then program output grows-name (next - k .at) (h .grows) (let y = onward 0 ek (λ z. omega arith) in omega arith); coded = h .coded }
+    with-name next l h = record { grows = grows-then program output grows-name (next - k .at) (h .grows) (let y = ahead 0 ek (λ z. omega arith) in omega arith); coded = h .coded }
 
   -- ---- behind a minus
 

@@ -1,5 +1,3 @@
 -- In the order to read them in.
-pub mod Readiness
-pub mod TermLaws
 pub mod ArgumentLists
 pub mod AtomLaws

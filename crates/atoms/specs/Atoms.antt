@@ -1,5 +1,6 @@
 -- Classical atoms as numbers: what the functions that read them promise.
-use mathlib.Core.Bool.{false}
+use mathlib.Core.Path.{_≡_}
+use mathlib.Core.Bool.{true, false, _||_}
 use mathlib.Core.List.{List, [], _∷_}
 use Prim.Native.Nat.{ℕ, _-_, _<_}
 use Rattle.tokens.specs.declared.Place.{Place}
@@ -8,14 +9,21 @@ use Rattle.meaning.specs.Rules.{Bytes, Term, Atom}
 use Rattle.meaning.specs.Values.{Value}
 use Rattle.codes.specs.Predicates.{CodedName}
 use Rattle.names.specs.Table.{most-names, names-of}
+use Rattle.syntax.specs.Text.{tokenRead}
 use Rattle.syntax.specs.Fills.{going, halted, Fills}
 use Rattle.syntax.specs.Atoms.{named-in, minus-in, atom-in}
 use Rattle.rows.specs.Coding.{CodedAtom, Codes}
-use Rattle.atoms.specs.declared.cursor.Cursor.{Cursor}
+use Rattle.terms.specs.declared.cursor.Cursor.{Cursor}
+use Rattle.terms.specs.Cursors.{ReadyCursor, met-before}
 use Rattle.atoms.specs.declared.atom.AtomRead.{AtomRead}
 use Rattle.atoms.specs.declared.atom.SignedName.{SignedName}
-use Rattle.atoms.specs.Cursors.{Ready, met-before}
 use Rattle.atoms.specs.Arguments.{no-codes}
+
+-- what is asked where an atom is wanted: what a term asks; and a head, of a fact or of a rule that is one too many, begins neither with `:-`
+-- nor at the end: there the grammar wants none. Only behind `not` anything may stand
+pub record ReadyAtom (program output text : Bytes) (names variables : List ℕ) (k : Cursor) : Type 0 where
+  pub ready : ReadyCursor program output text names variables k
+  pub begun : (k .ground || k .over) ≡ true → (tokenRead (k .ground) text (k .at) .kind ≡ 9 → ⊥) × (tokenRead (k .ground) text (k .at) .kind ≡ 20 → ⊥)
 
 -- the numbers stand for the atom, beside the table of names afterwards; what has been read began at a place
 abbrev pub AtomStands : Bytes → Bytes → List ℕ → ℕ → AtomRead → List ℕ → Atom (Term Value) → Type 0
@@ -27,7 +35,7 @@ NameStands program output names number b = CodedName (names-of program output na
 
 -- what is asked behind a name: its number stands for one
 pub record ReadyNamed (program output text : Bytes) (names variables : List ℕ) (k : Cursor) (name : SignedName) : Type 0 where
-  pub ready : Ready program output text names variables k
+  pub ready : ReadyCursor program output text names variables k
   pub small : name .number < most-names
   pub bytes : Bytes
   pub stands : NameStands program output names (name .number) bytes

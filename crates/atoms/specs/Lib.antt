@@ -1,5 +1,3 @@
 -- In the order to read them in.
-pub mod Cursors
-pub mod Terms
 pub mod Arguments
 pub mod Atoms

@@ -1,12 +1,13 @@
 // The arguments of an atom, behind its opening parenthesis, read as their numbers.
 ghost use mathlib.Core.Path.{_≡_};
-ghost use Rattle.atoms.specs.Cursors.{Ready};
-ghost use Rattle.atoms.specs.Arguments.{stoppedArguments, goneArguments, ReadsArguments};
-use crate::cursor::Cursor;
-use crate::term::term_at;
+ghost use Rattle.terms.specs.Cursors.{ReadyCursor};
+ghost use Rattle.atoms.specs.Arguments.{stoppedArguments, goneArguments, ReadySome, ReadsArguments};
 use syntax::separator::separator_at;
 use syntax::token::Progress;
 use syntax::token::token_at;
+use terms::cursor::Cursor;
+use terms::cursor::onward;
+use terms::term::term_at;
 use tokens::NOWHERE;
 use tokens::kind::CLOSE;
 use tokens::sizes::MOST_ARGUMENTS;
@@ -45,6 +46,42 @@ fn gone(terms: [u64; MOST_ARGUMENTS], count: usize, next: usize, met: usize) -> 
     }
 }
 
+// The arguments where the cursor stands, one at least, with the closing parenthesis.
+fn some_arguments<'a>(
+    program: &'a [u8],
+    output: &'a [u8],
+    text: &'a [u8],
+    names: &mut [u32],
+    variables: &mut [u32],
+    cursor: Cursor,
+) -> ArgumentsRead
+    requires { ⌜ ReadySome (now program) (now output) (now text) (now names) (now variables) cursor ⌝ }
+    ensures { λ r. ⌜ ReadsArguments (now (program .entry)) (now (output .entry)) (now (text .entry)) (now (names .entry)) (now (variables .entry)) cursor r (now (names .exit)) (now (variables .exit)) ⌝ }
+{
+    let mut terms = [0; MOST_ARGUMENTS];
+    let mut at = cursor.at;
+    let mut met = cursor.met;
+    let mut count = 0;
+    loop {
+        let here = onward(cursor, at, MOST_ARGUMENTS <= count, met);
+        let read = term_at(program, output, text, names, variables, here);
+        if read.progress.code != 0 {
+            return stopped(read.progress, met);
+        }
+        terms[count] = read.number;
+        count += 1;
+        met = read.met;
+        let end = separator_at(text, read.progress.next, cursor.ground, CLOSE);
+        if end.progress.code != 0 {
+            return stopped(end.progress, met);
+        }
+        if end.last {
+            return gone(terms, count, end.progress.next, met);
+        }
+        at = end.progress.next;
+    }
+}
+
 // The arguments where the cursor stands, with the closing parenthesis.
 pub fn arguments_at<'a>(
     program: &'a [u8],
@@ -54,42 +91,12 @@ pub fn arguments_at<'a>(
     variables: &mut [u32],
     cursor: Cursor,
 ) -> ArgumentsRead
-    requires { ⌜ Ready (now program) (now output) (now text) (now names) (now variables) cursor ⌝ }
+    requires { ⌜ ReadyCursor (now program) (now output) (now text) (now names) (now variables) cursor ⌝ }
     ensures { λ r. ⌜ ReadsArguments (now (program .entry)) (now (output .entry)) (now (text .entry)) (now (names .entry)) (now (variables .entry)) cursor r (now (names .exit)) (now (variables .exit)) ⌝ }
 {
-    let ground = cursor.ground;
-    let token = token_at(text, cursor.at, ground);
-    let mut terms = [0; MOST_ARGUMENTS];
+    let token = token_at(text, cursor.at, cursor.ground);
     if token.kind == CLOSE {
-        return gone(terms, 0, token.next, cursor.met);
+        return gone([0; MOST_ARGUMENTS], 0, token.next, cursor.met);
     }
-    let mut at = cursor.at;
-    let mut met = cursor.met;
-    let mut count = 0;
-    loop {
-        let here = Cursor {
-            base: cursor.base,
-            at,
-            ground,
-            over: MOST_ARGUMENTS <= count,
-            met,
-        };
-        let read = term_at(program, output, text, names, variables, here);
-        let progress = read.progress;
-        if progress.code != 0 {
-            return stopped(progress, met);
-        }
-        terms[count] = read.number;
-        count += 1;
-        met = read.met;
-        let end = separator_at(text, progress.next, ground, CLOSE);
-        let behind = end.progress;
-        if behind.code != 0 {
-            return stopped(behind, met);
-        }
-        if end.last {
-            return gone(terms, count, behind.next, met);
-        }
-        at = behind.next;
-    }
+    some_arguments(program, output, text, names, variables, cursor)
 }

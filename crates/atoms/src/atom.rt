@@ -1,9 +1,8 @@
 // A classical atom, read as its predicate's number and its terms': perhaps a minus, a name, perhaps arguments.
 ghost use mathlib.Core.Path.{_≡_};
-ghost use Rattle.atoms.specs.Cursors.{Ready, ReadyAtom};
-ghost use Rattle.atoms.specs.Atoms.{stoppedAtom, goneAtom, ReadyNamed, ReadsNamed, ReadsMinus, ReadsAtom};
+ghost use Rattle.terms.specs.Cursors.{ReadyCursor};
+ghost use Rattle.atoms.specs.Atoms.{stoppedAtom, goneAtom, ReadyAtom, ReadyNamed, ReadsNamed, ReadsMinus, ReadsAtom};
 use crate::arguments::arguments_at;
-use crate::cursor::Cursor;
 use codes::predicate;
 use rows::literal::AtomCodes;
 use rows::term::name_number;
@@ -12,6 +11,8 @@ use syntax::token::token_at;
 use syntax::word::OVER;
 use syntax::word::WRONG;
 use syntax::word::word_code;
+use terms::cursor::Cursor;
+use terms::cursor::onward;
 use tokens::NOWHERE;
 use tokens::Place;
 use tokens::kind::MINUS;
@@ -82,22 +83,14 @@ pub fn named_atom<'a>(
         let alone = predicate(name.negative, number, 0);
         return gone(alone, [0; MOST_ARGUMENTS], cursor.at, cursor.met);
     }
-    let inside = Cursor {
-        base: cursor.base,
-        at: token.next,
-        ground: cursor.ground,
-        over: false,
-        met: cursor.met,
-    };
+    let inside = onward(cursor, token.next, false, cursor.met);
     let read = arguments_at(program, output, text, names, variables, inside);
-    let progress = read.progress;
-    if progress.code != 0 {
-        let place = progress.place;
-        return stopped(progress.code, place, read.met);
+    if read.progress.code != 0 {
+        return stopped(read.progress.code, read.progress.place, read.met);
     }
     let terms = read.terms;
     let with_arguments = predicate(name.negative, number, read.count as u64);
-    gone(with_arguments, terms, progress.next, read.met)
+    gone(with_arguments, terms, read.progress.next, read.met)
 }
 
 // The atom whose minus ends before the cursor.
@@ -109,26 +102,19 @@ pub fn minus_atom<'a>(
     variables: &mut [u32],
     cursor: Cursor,
 ) -> AtomRead
-    requires { ⌜ Ready (now program) (now output) (now text) (now names) (now variables) cursor ⌝ }
+    requires { ⌜ ReadyCursor (now program) (now output) (now text) (now names) (now variables) cursor ⌝ }
     ensures { λ r. ⌜ ReadsMinus (now (program .entry)) (now (output .entry)) (now (text .entry)) (now (names .entry)) (now (variables .entry)) cursor r (now (names .exit)) (now (variables .exit)) ⌝ }
 {
     let token = token_at(text, cursor.at, cursor.ground);
-    let place = token.place;
     if token.kind != NAME {
-        return stopped(WRONG, place, cursor.met);
+        return stopped(WRONG, token.place, cursor.met);
     }
-    let code = word_code(place, false);
+    let code = word_code(token.place, false);
     if code != 0 {
-        return stopped(code, place, cursor.met);
+        return stopped(code, token.place, cursor.met);
     }
-    let number = name_number(program, output, text, names, cursor.base, place);
-    let behind = Cursor {
-        base: cursor.base,
-        at: token.next,
-        ground: cursor.ground,
-        over: false,
-        met: cursor.met,
-    };
+    let number = name_number(program, output, text, names, cursor.base, token.place);
+    let behind = onward(cursor, token.next, false, cursor.met);
     let name = SignedName {
         negative: true,
         number,
@@ -149,20 +135,13 @@ pub fn atom_at<'a>(
     ensures { λ r. ⌜ ReadsAtom (now (program .entry)) (now (output .entry)) (now (text .entry)) (now (names .entry)) (now (variables .entry)) cursor r (now (names .exit)) (now (variables .exit)) ⌝ }
 {
     let token = token_at(text, cursor.at, cursor.ground);
-    let place = token.place;
-    let behind = Cursor {
-        base: cursor.base,
-        at: token.next,
-        ground: cursor.ground,
-        over: false,
-        met: cursor.met,
-    };
+    let behind = onward(cursor, token.next, false, cursor.met);
     if token.kind == NAME {
-        let code = word_code(place, cursor.over);
+        let code = word_code(token.place, cursor.over);
         if code != 0 {
-            return stopped(code, place, cursor.met);
+            return stopped(code, token.place, cursor.met);
         }
-        let number = name_number(program, output, text, names, cursor.base, place);
+        let number = name_number(program, output, text, names, cursor.base, token.place);
         let name = SignedName {
             negative: false,
             number,
@@ -170,10 +149,10 @@ pub fn atom_at<'a>(
         return named_atom(program, output, text, names, variables, behind, name);
     }
     if token.kind != MINUS {
-        return stopped(WRONG, place, cursor.met);
+        return stopped(WRONG, token.place, cursor.met);
     }
     if cursor.over {
-        return stopped(OVER, place, cursor.met);
+        return stopped(OVER, token.place, cursor.met);
     }
     minus_atom(program, output, text, names, variables, behind)
 }

@@ -12,7 +12,7 @@ use Rattle.meaning.specs.Safety.{positives}
 use Rattle.meaning.specs.Instances.{Substitution}
 use Rattle.meaning.specs.Matchings.{Placed}
 use Rattle.meaning.specs.Verdicts.{Means, MeansUnsatisfied}
-use Rattle.meaning.specs.Outcomes.{Answers}
+use Rattle.meaning.specs.Outcomes.{MeansOutcome}
 use Rattle.codes.proofs.Pairwise.{within}
 use Rattle.judge.specs.declared.Judgement.{Judgement}
 use Rattle.judge.specs.declared.Kind.the-variants.{Unsatisfied}
@@ -38,10 +38,10 @@ same-before (p ∷ ps) (q ∷ qs) e =
     let r = same-before ps qs rest in
     cc (f, r)
 
-module _ (P : List (Rule Value)) (I : List (Fact Value)) (rules : length P ≤ 1_024) (facts : length I ≤ 1_024) (j : Judgement) (n : ℕ) (new : List ℕ) (wide : length (j .positions) ≡ 16) (h : Answers values in-range P I (said (j .kind) j n new)) where
+module _ (P : List (Rule Value)) (I : List (Fact Value)) (rules : length P ≤ 1_024) (facts : length I ≤ 1_024) (j : Judgement) (n : ℕ) (new : List ℕ) (wide : length (j .positions) ≡ 16) (h : MeansOutcome values in-range P I (said (j .kind) j n new)) where
   unsatisfied : j .kind ≡ Unsatisfied → MeansUnsatisfied values P I (suc (j .rule)) (map suc (take (j .length) (j .positions)))
-  unfolding said Means Answers
-  unsatisfied e = let k : Answers values in-range P I (said Unsatisfied j n new) = rw e at h in k .means
+  unfolding said Means MeansOutcome
+  unsatisfied e = let k : MeansOutcome values in-range P I (said Unsatisfied j n new) = rw e at h in k .means
 
   rule-below : MeansUnsatisfied values P I (suc (j .rule)) (map suc (take (j .length) (j .positions))) → j .rule < 1_024
   rule-below m = let l = within P (m .rule-before) (m .first-broken .is-rule) in omega (arith, l, m .from-one, rules)

@@ -50,7 +50,7 @@ module _ (text : Bytes) (P : List (Rule Value)) (I : List (Fact Value)) (old new
   abbrev Here : Answer → List ℕ → Type 0
   Here = Answers (Settled (rule-part text) P I old) old
 
-  pub told : (k : Kind) → meant.Answers values in-range P I (said k j n new) → Lent k n old new → NoneBehind k j n → (a : Answer) → Tells text j n k a → Here a new
+  pub told : (k : Kind) → meant.MeansOutcome values in-range P I (said k j n new) → Lent k n old new → NoneBehind k j n → (a : Answer) → Tells text j n k a → Here a new
   unfolding said Lent NoneBehind settles paper.says
   told OutOfRange h lent clear a leaves-range =
       let stage = settled-is (rule-part text) P I old (meant.out-of-range (suc (j .rule))) h in

@@ -43,7 +43,7 @@ module _ (program output : Bytes) (names rules literals facts links : List ℕ) 
     few-rules = omega (arith, same-length (s .held .rules-held .rules-stand), from-length (rule-at rules literals) total 0, s .held .rules-held .rule-table .few)
 
     module _ (old new : List ℕ) (room : count ≤ length old) (j : Judgement) (judged : Judged (names-of program output names) (rules-of rules literals total) (facts-of facts count) old new j) where
-      answers : meant.Answers values in-range P I (said (j .kind) j (length (facts-of facts count)) new)
+      answers : meant.MeansOutcome values in-range P I (said (j .kind) j (length (facts-of facts count)) new)
       answers = coded-answers (names-of program output names) (s .held .rules-held .name-table .distinct) (s .held .rules-held .rules-stand) (s .held .facts-stand) (s .held .rules-held .safe-rules) _ .1 (sym (judged .says))
 
       pub room-to-count : length (j .positions) ≡ 16 → Small j

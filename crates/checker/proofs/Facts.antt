@@ -21,7 +21,7 @@ use Rattle.report.specs.declared.word.Word.the-variants as words
 use Rattle.report.specs.Word.{agrees}
 use Rattle.output.specs.declared.OutputRead.{OutputRead}
 use Rattle.output.specs.Output.{on-line}
-use Rattle.output.specs.Tables.{Tables, Lent, FillsOutput}
+use Rattle.output.specs.Tables.{OutputTables, Lent, FillsOutput}
 use Rattle.output.proofs.Uses.{Answering, handed-on, output-answers}
 use Rattle.store.specs.Store.{store-size, literals-in, rules-in}
 use Rattle.filling.specs.Filling.{facts-size, FactsFillable}
@@ -40,12 +40,12 @@ module _ (program output : Bytes) where
   grown-held : (names names′ rules literals : List ℕ) (total n : ℕ) (P : List (Rule Value)) → Grows program output names n names′ → RulesHeld program output names rules literals total P → RulesHeld program output names′ rules literals total P
   grown-held names names′ rules literals total n P g h = record { name-table = g .in-order; rule-table = h .rule-table; rules-stand = more-names names names′ n g _ P (h .rules-stand); safe-rules = h .safe-rules }
 
-  pub tables-lent : (t : Tables) (store : List ℕ) (total : ℕ) → WithRules program output (t .names) store total → facts-size ≤ length (t .facts) → 1_024 ≤ length (t .predicates) → 1_024 ≤ length (t .starts) → 1_024 ≤ length (t .lengths) → Lent program output t
+  pub tables-lent : (t : OutputTables) (store : List ℕ) (total : ℕ) → WithRules program output (t .names) store total → facts-size ≤ length (t .facts) → 1_024 ≤ length (t .predicates) → 1_024 ≤ length (t .starts) → 1_024 ≤ length (t .lengths) → Lent program output t
   tables-lent t store total w facts predicates starts lengths = record { room = w .room; facts-long = facts; predicates-long = predicates; starts-long = starts; lengths-long = lengths }
 
   -- ---- behind ANSWER
 
-  module _ (t : Tables) (s : OutputRead) (u : Tables) (read : FillsOutput program output t s u) (y : s .code ≡ 0) (e : s .word ≡ words.Answer) where
+  module _ (t : OutputTables) (s : OutputRead) (u : OutputTables) (read : FillsOutput program output t s u) (y : s .code ≡ 0) (e : s .word ≡ words.Answer) where
     answering : Answering program output (s .count) t u
     answering = output-answers program output t s u read y e
 

@@ -1,7 +1,7 @@
 -- What the function that reads a body returns. The loop's invariant: the rows so far stand for the literals that have been read as far as
 -- here.
 use mathlib.Core.Path.{_≡_, refl, ap, _∙_, sym as inv}
-use mathlib.Core.Bool.{true, false, true≢false, false≢true}
+use mathlib.Core.Bool.{Bool, true, false, true≢false, false≢true}
 use mathlib.Core.Option.{Option, none, some}
 use mathlib.Core.List.{List, [], _∷_, _++_}
 use Prim.Native.Nat.{ℕ, suc, _+_, _-_, _*_, _≤_, _<_}
@@ -51,13 +51,13 @@ use Rattle.syntax.proofs.Readings.{fills-kept}
 use Rattle.rows.specs.Growth.{Grows}
 use Rattle.rows.specs.Coding.{Codes}
 use Rattle.rows.proofs.Growth.{grows-none, grows-then, keeps-literal}
-use Rattle.atoms.specs.declared.cursor.Cursor.{Cursor}
-use Rattle.atoms.specs.Cursors.{met-before}
-use Rattle.atoms.proofs.Readiness.{met-fits, fits-met, ready-on, codes-wider}
-use Rattle.clauses.specs.declared.builtin.LiteralRead.{LiteralRead}
+use Rattle.terms.specs.declared.cursor.Cursor.{Cursor}
+use Rattle.terms.specs.Cursors.{met-before, onward}
+use Rattle.terms.proofs.Readiness.{met-fits, fits-met, ready-on, codes-wider}
+use Rattle.literals.specs.declared.builtin.LiteralRead.{LiteralRead}
+use Rattle.literals.specs.Builtins.{ReadyBehind}
+use Rattle.literals.specs.Literals.{ReadsLiteral}
 use Rattle.clauses.specs.declared.body.BodyRead.{BodyRead}
-use Rattle.clauses.specs.Builtins.{ReadyBehind}
-use Rattle.clauses.specs.Literals.{ReadsLiteral}
 use Rattle.clauses.specs.Bodies.{ReadyBody, FillsBody, stoppedBody, goneBody}
 
 -- a body behind these literals
@@ -72,7 +72,7 @@ literals-many vs (ls then l) = length-append (literals-for vs ls) (literal-for (
 
 -- the cursor where the next literal stands
 abbrev pub at-literal : Cursor → ℕ → ℕ → ℕ → Cursor
-at-literal k at met n = record { base = k .base; at = at; ground = false; over = leb 16 n; met = met }
+at-literal k at met n = onward k at (leb 16 n) met
 
 pub record Going (program output : Bytes) (names₀ variables₀ literals₀ : List ℕ) (k : Cursor) (first : ℕ) (names variables literals : List ℕ) (at met₁ n : ℕ) : Type 0 where
   pub fits : Fits (places-in variables met₁)
@@ -115,8 +115,8 @@ module _ (program output : Bytes) (names₀ variables₀ literals₀ : List ℕ)
   v₀ = met-before variables₀ k
 
   -- there is room behind what has been read
-  pub going-ready : ReadyBody program output names₀ variables₀ literals₀ k first → ReadyBehind program output names variables (at-literal k at met₁ n)
-  going-ready asked = record { ready = ready-on (asked .ready .ready) (at-literal k at met₁ n) refl (g .grows) (g .onward) (g .within-text) (fits-met variables met₁ (g .fits)) (g .long); in-program = refl }
+  pub going-ready : ReadyBody program output names₀ variables₀ literals₀ k first → (over : Bool) → ReadyBehind program output names variables (onward k at over met₁)
+  going-ready asked over = record { ready = ready-on (asked .ready .ready) (onward k at over met₁) refl (g .grows) (g .onward) (g .within-text) (fits-met variables met₁ (g .fits)) (g .long); in-program = asked .ready .in-program }
 
   module _ (r : LiteralRead) (names′ variables′ : List ℕ) (gr : ReadsLiteral program output names variables (at-literal k at met₁ n) r names′ variables′) where
     place : Program false → Option (AtomTree false) → LiteralPlace (leb 16 n)

@@ -49,16 +49,16 @@ use Rattle.rows.specs.declared.literal.AtomCodes.{AtomCodes}
 use Rattle.rows.specs.Growth.{Grows}
 use Rattle.rows.specs.Coding.{CodedAtom}
 use Rattle.rows.proofs.Growth.{grows-none, grows-then, keeps-atom}
-use Rattle.atoms.specs.declared.cursor.Cursor.{Cursor}
+use Rattle.terms.specs.declared.cursor.Cursor.{Cursor}
+use Rattle.terms.specs.Cursors.{ReadyCursor, met-before, onward}
+use Rattle.terms.proofs.Readiness.{behind-token, met-fits, fits-met, ready-on, codes-wider}
 use Rattle.atoms.specs.declared.atom.AtomRead.{AtomRead}
-use Rattle.atoms.specs.Cursors.{Ready, met-before}
 use Rattle.atoms.specs.Atoms.{AtomStands, ReadsAtom}
-use Rattle.atoms.proofs.Readiness.{met-fits, fits-met, ready-on, codes-wider}
+use Rattle.literals.proofs.BuiltinLaws.{ready-token}
 use Rattle.clauses.specs.declared.body.BodyRead.{BodyRead}
 use Rattle.clauses.specs.declared.clause.RuleRead.{RuleRead}
 use Rattle.clauses.specs.Bodies.{ReadyBody, FillsBody, stoppedBody, goneBody}
 use Rattle.clauses.specs.Clauses.{FillsHeaded, ReadyRule, FillsRule, stoppedRule, endedRule, bodiedRule}
-use Rattle.clauses.proofs.BuiltinLaws.{in-program-behind, ready-token}
 use Rattle.clauses.proofs.BodyLaws.{literals-many}
 
 -- ---- from the end of the head on
@@ -72,8 +72,8 @@ module _ (program output : Bytes) (names variables literals : List ℕ) (k : Cur
   abbrev v : List Place
   v = met-before variables k
 
-  onward : (n : ℕ) → t .kind ≡ n → (n ≡ 20 → ⊥) → k .at ≤ t .next
-  onward n ek nk = let l = forward false program (k .at) t et (λ q. nk (inv ek ∙ q)) in omega arith
+  passed : (n : ℕ) → t .kind ≡ n → (n ≡ 20 → ⊥) → k .at ≤ t .next
+  passed n ek nk = let l = forward false program (k .at) t et (λ q. nk (inv ek ∙ q)) in omega arith
 
   -- a dot: a fact
   pub headed-fact : (r : BodyRead) → t .kind ≡ 8 → r ≡ goneBody 0 (t .next) (k .met) → FillsHeaded program output names variables literals k first r names variables literals
@@ -82,7 +82,7 @@ module _ (program output : Bytes) (names variables literals : List ℕ) (k : Cur
       rw er
       (FillsHeaded.read refl
       (record {
-        forward = onward 8 ek (λ z. omega arith);
+        forward = passed 8 ek (λ z. omega arith);
         inside = within false program (k .at) t et;
         fits = met-fits (asked .ready .ready);
         few = omega arith;
@@ -106,19 +106,19 @@ module _ (program output : Bytes) (names variables literals : List ℕ) (k : Cur
 
   -- `:-` behind a head
   module _ (ek : t .kind ≡ 9) where
-    pub ready-body : ReadyBody program output names variables literals (in-program-behind k t) first
+    pub ready-body : ReadyBody program output names variables literals (behind-token k t) first
     ready-body = record { ready = ready-token program output names variables k (asked .ready) t et (λ z. let y : _≡_ {A = ℕ} 9 20 = inv ek ∙ z in omega arith); long = asked .long; low = asked .low }
 
-    pub headed-body : (r : BodyRead) (names′ variables′ literals′ : List ℕ) → FillsBody program output names variables literals (in-program-behind k t) first r names′ variables′ literals′ → FillsHeaded program output names variables literals k first r names′ variables′ literals′
+    pub headed-body : (r : BodyRead) (names′ variables′ literals′ : List ℕ) → FillsBody program output names variables literals (behind-token k t) first r names′ variables′ literals′ → FillsHeaded program output names variables literals k first r names′ variables′ literals′
     unfolding moves after-atom free-moves try fire either when token-of symbol-number token-number too-big too-long too-many too-many-variables is-underscore meet meet-symbol rule-for count
     headed-body r names′ variables′ literals′ b = go b
       where
         if-on : (p : Program false) (x : AtomTree false) → from false program (wants (closed (head-behind p) x)) v (k .at) ≡ from false program (wants (atom-wanted (literal-in (new-body tt p (some x))))) v (t .next)
         if-on p x = on-kind false program (k .at) t et 9 ek (λ z. omega arith) (wants (closed (head-behind p) x)) v v _ refl (fault-none _ _ _ _ refl refl refl refl) (meets-none program (token-by 9 (part program (t .place))) (t .place) v refl refl)
 
-        go : FillsBody program output names variables literals (in-program-behind k t) first r names′ variables′ literals′ → FillsHeaded program output names variables literals k first r names′ variables′ literals′
+        go : FillsBody program output names variables literals (behind-token k t) first r names′ variables′ literals′ → FillsHeaded program output names variables literals k first r names′ variables′ literals′
         go (FillsBody.read c w) =
-            let l = onward 9 ek (λ z. omega arith) in
+            let l = passed 9 ek (λ z. omega arith) in
             FillsHeaded.read c
             (record {
               forward = let y = w .forward in omega arith;
@@ -197,25 +197,25 @@ module _ (program output : Bytes) (names variables literals : List ℕ) (k : Cur
     if-over names′ variables′ literals′ r o er = rw er (FillsRule.stopped (omega arith) (λ h. ahead (h .rules) ∙ over-kind false program (k .at) t et 9 ek (λ z. omega arith) (wants (atom-wanted (head-behind (h .rules)))) [] (record { mark = rule (suc (count (h .rules))); state = atom-wanted (literal-in (new-body tt (h .rules) none)) }) 4 (if-step (h .rules)) (inv (fault-many _ _ _ _ refl (h .size ∙ o))) (λ z. omega arith)))
 
     -- the cursor of its body
-    pub ready-if : k .over ≡ false → ReadyBody program output names variables literals (record { base = k .base; at = t .next; ground = false; over = false; met = 0 }) (number * rule-rows + 1)
+    pub ready-if : k .over ≡ false → ReadyBody program output names variables literals (onward k (t .next) false 0) (number * rule-rows + 1)
     ready-if o =
         let y = ready-token program output names variables k (asked .ready) t et (λ z. let y : _≡_ {A = ℕ} 9 20 = inv ek ∙ z in omega arith) .ready in
-        record { ready = record { ready = record { source = y .source; short = y .short; inside = y .inside; room = y .room; few = omega arith; long = y .long }; in-program = refl }; long = let l = asked .long o in omega arith; low = let l = asked .small in omega arith }
+        record { ready = record { ready = record { source = y .source; short = y .short; inside = y .inside; room = y .room; few = omega arith; long = y .long }; in-program = asked .ready .in-program }; long = let l = asked .long o in omega arith; low = let l = asked .small in omega arith }
 
-    pub if-goes : k .over ≡ false → (b : BodyRead) (names′ variables′ literals′ : List ℕ) → FillsBody program output names variables literals (record { base = k .base; at = t .next; ground = false; over = false; met = 0 }) (number * rule-rows + 1) b names′ variables′ literals′ → (r : RuleRead) → r ≡ bodiedRule no-literal b → FillsRule program output names variables literals k number r names′ variables′ literals′
+    pub if-goes : k .over ≡ false → (b : BodyRead) (names′ variables′ literals′ : List ℕ) → FillsBody program output names variables literals (onward k (t .next) false 0) (number * rule-rows + 1) b names′ variables′ literals′ → (r : RuleRead) → r ≡ bodiedRule no-literal b → FillsRule program output names variables literals k number r names′ variables′ literals′
     unfolding token-of too-big too-long too-many-variables is-underscore meet meet-symbol token-number symbol-number variables-of rule-for head-at count places-in
     if-goes o b names′ variables′ literals′ gb r er = rw er (go gb)
       where
         if-on : (p : Program false) → too-many false (rule (suc (count p))) ≡ k .over → from false program (wants (atom-wanted (head-behind p))) [] (k .at) ≡ from false program (wants (atom-wanted (literal-in (new-body tt p none)))) [] (t .next)
         if-on p s = on-kind false program (k .at) t et 9 ek (λ z. omega arith) (wants (atom-wanted (head-behind p))) [] [] (record { mark = rule (suc (count p)); state = atom-wanted (literal-in (new-body tt p none)) }) (if-step p) (fault-none _ _ _ _ refl refl (s ∙ o) refl) (meets-none program (token-by 9 (part program (t .place))) (t .place) [] refl refl)
 
-        onward : k .at ≤ t .next
-        onward = let l = forward false program (k .at) t et (λ q. let z : _≡_ {A = ℕ} 9 20 = inv ek ∙ q in omega arith) in omega arith
+        passed : k .at ≤ t .next
+        passed = let l = forward false program (k .at) t et (λ q. let z : _≡_ {A = ℕ} 9 20 = inv ek ∙ q in omega arith) in omega arith
 
-        go : FillsBody program output names variables literals (record { base = k .base; at = t .next; ground = false; over = false; met = 0 }) (number * rule-rows + 1) b names′ variables′ literals′ → FillsRule program output names variables literals k number (bodiedRule no-literal b) names′ variables′ literals′
+        go : FillsBody program output names variables literals (onward k (t .next) false 0) (number * rule-rows + 1) b names′ variables′ literals′ → FillsRule program output names variables literals k number (bodiedRule no-literal b) names′ variables′ literals′
         go (FillsBody.stopped c w) = FillsRule.stopped c (λ h. ahead (h .rules) ∙ ap (λ y. y .answer) (if-on (h .rules) (h .size)) ∙ w (h .rules) none)
         go (FillsBody.read c w) =
-            let l = onward in
+            let l = passed in
             FillsRule.read c refl o (clause tt none (w .before) (w .final))
             (record {
               forward = let y = w .forward in omega arith;
@@ -257,18 +257,18 @@ module _ (program output : Bytes) (names variables literals : List ℕ) (k : Cur
         changed : Kept (number * rule-rows * literal-stride) (number * rule-rows * literal-stride + literal-stride) literals literals₁
         changed = rw stored (put-kept-of literals (number * rule-rows * literal-stride) row (omega (arith, here)) literal-stride twelve)
 
-        pub ready-headed : length variables₁ ≡ length variables → ReadyBody program output names₁ variables₁ literals₁ (record { base = k .base; at = w .progress .next; ground = false; over = false; met = w .met }) (number * rule-rows + 1)
-        ready-headed long = record { ready = record { ready = go in-program-head; in-program = refl }; long = let l = asked .long head-room in let y = changed .long in omega arith; low = let l = asked .small in omega arith }
+        pub ready-headed : length variables₁ ≡ length variables → ReadyBody program output names₁ variables₁ literals₁ (onward k (w .progress .next) false (w .met)) (number * rule-rows + 1)
+        ready-headed long = record { ready = record { ready = go in-program-head; in-program = asked .ready .in-program }; long = let l = asked .long head-room in let y = changed .long in omega arith; low = let l = asked .small in omega arith }
           where
-            go : Fills (atom-in false (k .over) program (k .at)) (k .over) program (k .at) [] (w .progress) (places-in variables₁ (w .met)) (AtomStands program output names (k .at) w names₁) → Ready program output program names₁ variables₁ (record { base = k .base; at = w .progress .next; ground = false; over = false; met = w .met })
-            go (Fills.read c b n o f x s m q) = ready-on (asked .ready .ready) (record { base = k .base; at = w .progress .next; ground = false; over = false; met = w .met }) refl (s .grows) b n (fits-met variables₁ (w .met) f) long
+            go : Fills (atom-in false (k .over) program (k .at)) (k .over) program (k .at) [] (w .progress) (places-in variables₁ (w .met)) (AtomStands program output names (k .at) w names₁) → ReadyCursor program output program names₁ variables₁ (onward k (w .progress .next) false (w .met))
+            go (Fills.read c b n o f x s m q) = ready-on (asked .ready .ready) (onward k (w .progress .next) false (w .met)) refl (s .grows) b n (fits-met variables₁ (w .met) f) long
             go (Fills.stopped c q) = absurd (omega arith)
 
-        pub head-goes : (b : BodyRead) (names₂ variables₂ literals₂ : List ℕ) → FillsHeaded program output names₁ variables₁ literals₁ (record { base = k .base; at = w .progress .next; ground = false; over = false; met = w .met }) (number * rule-rows + 1) b names₂ variables₂ literals₂ → (r : RuleRead) → r ≡ bodiedRule (number * rule-rows) b → FillsRule program output names variables literals k number r names₂ variables₂ literals₂
+        pub head-goes : (b : BodyRead) (names₂ variables₂ literals₂ : List ℕ) → FillsHeaded program output names₁ variables₁ literals₁ (onward k (w .progress .next) false (w .met)) (number * rule-rows + 1) b names₂ variables₂ literals₂ → (r : RuleRead) → r ≡ bodiedRule (number * rule-rows) b → FillsRule program output names variables literals k number r names₂ variables₂ literals₂
         unfolding place atom-context variables-of
         head-goes b names₂ variables₂ literals₂ gb r er = rw er (go in-program-head gb)
           where
-            go : Fills (atom-in false (k .over) program (k .at)) (k .over) program (k .at) [] (w .progress) (places-in variables₁ (w .met)) (AtomStands program output names (k .at) w names₁) → FillsHeaded program output names₁ variables₁ literals₁ (record { base = k .base; at = w .progress .next; ground = false; over = false; met = w .met }) (number * rule-rows + 1) b names₂ variables₂ literals₂ → FillsRule program output names variables literals k number (bodiedRule (number * rule-rows) b) names₂ variables₂ literals₂
+            go : Fills (atom-in false (k .over) program (k .at)) (k .over) program (k .at) [] (w .progress) (places-in variables₁ (w .met)) (AtomStands program output names (k .at) w names₁) → FillsHeaded program output names₁ variables₁ literals₁ (onward k (w .progress .next) false (w .met)) (number * rule-rows + 1) b names₂ variables₂ literals₂ → FillsRule program output names variables literals k number (bodiedRule (number * rule-rows) b) names₂ variables₂ literals₂
             go (Fills.stopped c q) h = absurd (omega arith)
             go (Fills.read c f n o fits x s m q) (FillsHeaded.stopped c′ q′) = FillsRule.stopped c′ (λ h. ahead (h .rules) ∙ ap (λ y. y .answer) (q (place h)) ∙ q′ (h .rules) x)
             go (Fills.read c f n o fits x s m q) (FillsHeaded.read c′ j) =

@@ -25,10 +25,10 @@ use Rattle.syntax.specs.Ahead.{wants, firsts, behind-dot, from}
 use Rattle.syntax.specs.Fills.{going, halted}
 use Rattle.syntax.specs.Rules.{behind-rules}
 use Rattle.rows.specs.Coding.{Codes}
-use Rattle.atoms.specs.declared.cursor.Cursor.{Cursor}
-use Rattle.atoms.specs.Cursors.{met-before}
+use Rattle.terms.specs.declared.cursor.Cursor.{Cursor}
+use Rattle.terms.specs.Cursors.{met-before}
+use Rattle.literals.specs.Builtins.{ReadyBehind}
 use Rattle.clauses.specs.declared.body.BodyRead.{BodyRead}
-use Rattle.clauses.specs.Builtins.{ReadyBehind}
 
 -- what is asked: a cursor in a program, and room for the rows of a body
 pub record ReadyBody (program output : Bytes) (names variables literals : List ℕ) (k : Cursor) (first : ℕ) : Type 0 where

@@ -19,17 +19,17 @@ use Rattle.tables.specs.Layout.{literal-stride, rule-rows, most-literals}
 use Rattle.tables.specs.Stored.{Kept}
 use Rattle.tables.specs.Rows.{no-literal}
 use Rattle.tables.specs.Coded.{HeadCoded, BodyCoded}
-use Rattle.syntax.specs.Text.{placed-from}
+use Rattle.syntax.specs.Text.{placed-from, tokenRead}
 use Rattle.syntax.specs.Variables.{variables-of, Fits}
 use Rattle.syntax.specs.Ahead.{wants, firsts, behind-dot, from}
 use Rattle.syntax.specs.Fills.{halted}
 use Rattle.syntax.specs.Rules.{behind-rules, RulePlace}
 use Rattle.rows.specs.Coding.{Codes}
-use Rattle.atoms.specs.declared.cursor.Cursor.{Cursor}
-use Rattle.atoms.specs.Cursors.{met-before}
+use Rattle.terms.specs.declared.cursor.Cursor.{Cursor}
+use Rattle.terms.specs.Cursors.{met-before}
+use Rattle.literals.specs.Builtins.{ReadyBehind}
 use Rattle.clauses.specs.declared.body.BodyRead.{BodyRead}
 use Rattle.clauses.specs.declared.clause.RuleRead.{RuleRead}
-use Rattle.clauses.specs.Builtins.{ReadyBehind}
 
 -- ---- from the end of the head on: a fact, or a body behind the head
 
@@ -61,6 +61,12 @@ pub record ReadyRule (program output : Bytes) (names variables literals : List �
   pub none-met : k .met ≡ 0
   pub small : number * rule-rows < no-literal
   pub long : k .over ≡ false → (number * rule-rows + rule-rows) * literal-stride ≤ length literals
+
+-- what is asked where it begins with a head: neither `:-` nor the end stands there
+pub record ReadyHead (program output : Bytes) (names variables literals : List ℕ) (k : Cursor) (number : ℕ) : Type 0 where
+  pub rule : ReadyRule program output names variables literals k number
+  pub no-if : tokenRead false program (k .at) .kind ≡ 9 → ⊥
+  pub no-end : tokenRead false program (k .at) .kind ≡ 20 → ⊥
 
 -- the rows stand for the head and the body of the tree x; where each of its variables first occurs, and what stands behind its dot
 pub record RuleStands (program output : Bytes) (names variables literals : List ℕ) (k : Cursor) (number : ℕ) (x : Tree false) (r : RuleRead) (names′ variables′ literals′ : List ℕ) : Type 0 where

@@ -1,5 +1,3 @@
 -- In the order to read them in.
-pub mod Builtins
-pub mod Literals
 pub mod Bodies
 pub mod Clauses

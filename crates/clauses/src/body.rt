@@ -5,12 +5,13 @@ ghost use lib.ListN.{length};
 ghost use Rattle.tables.specs.Stored.{with-row};
 ghost use Rattle.tables.specs.Layout.{literal-stride};
 ghost use Rattle.clauses.specs.Bodies.{stoppedBody, goneBody, ReadyBody, FillsBody};
-use crate::literal::literal_at;
-use atoms::cursor::Cursor;
+use literals::literal::literal_at;
 use syntax::separator::separator_at;
 use syntax::token::Progress;
 use tables::LITERAL;
 use tables::row::put_row;
+use terms::cursor::Cursor;
+use terms::cursor::onward;
 use tokens::NOWHERE;
 use tokens::Place;
 use tokens::kind::DOT;
@@ -76,32 +77,22 @@ pub fn body_at<'a>(
     let mut met = cursor.met;
     let mut count = 0;
     loop {
-        let here = Cursor {
-            base: cursor.base,
-            at,
-            ground: false,
-            over: MOST_LITERALS <= count,
-            met,
-        };
+        let here = onward(cursor, at, MOST_LITERALS <= count, met);
         let read = literal_at(program, output, names, variables, here);
-        let progress = read.progress;
-        if progress.code != 0 {
-            let place = progress.place;
-            return stopped(progress.code, place, met);
+        if read.progress.code != 0 {
+            return stopped(read.progress.code, read.progress.place, met);
         }
         let row = read.row;
         put_literal(literals, first + count, row);
         count += 1;
         met = read.met;
-        let end = separator_at(program, progress.next, false, DOT);
-        let behind = end.progress;
-        if behind.code != 0 {
-            let place = behind.place;
-            return stopped(behind.code, place, met);
+        let end = separator_at(program, read.progress.next, false, DOT);
+        if end.progress.code != 0 {
+            return stopped(end.progress.code, end.progress.place, met);
         }
         if end.last {
-            return gone(count, behind.next, met);
+            return gone(count, end.progress.next, met);
         }
-        at = behind.next;
+        at = end.progress.next;
     }
 }

@@ -1,14 +1,13 @@
 // A rule of a program to its literals' rows: the head's, and behind it the body's.
 ghost use mathlib.Core.Path.{_≡_};
 ghost use Rattle.clauses.specs.Bodies.{ReadyBody};
-ghost use Rattle.clauses.specs.Clauses.{stoppedRule, endedRule, bodiedRule, ReadyRule, FillsHeaded, FillsRule};
+ghost use Rattle.clauses.specs.Clauses.{stoppedRule, endedRule, bodiedRule, ReadyRule, ReadyHead, FillsHeaded, FillsRule};
 use crate::body::BodyRead;
 use crate::body::body_at;
 use crate::body::gone;
 use crate::body::put_literal;
 use crate::body::stopped as stopped_body;
 use atoms::atom::atom_at;
-use atoms::cursor::Cursor;
 use rows::literal::atom_row;
 use syntax::token::Progress;
 use syntax::token::token_at;
@@ -17,6 +16,8 @@ use syntax::word::WRONG;
 use tables::HEAD;
 use tables::NO_LITERAL;
 use tables::ROWS;
+use terms::cursor::Cursor;
+use terms::cursor::onward;
 use tokens::NOWHERE;
 use tokens::Place;
 use tokens::kind::DOT;
@@ -89,17 +90,35 @@ fn headed<'a>(
         return gone(0, token.next, cursor.met);
     }
     if token.kind != IF {
-        let place = token.place;
-        return stopped_body(WRONG, place, cursor.met);
+        return stopped_body(WRONG, token.place, cursor.met);
     }
-    let behind = Cursor {
-        base: cursor.base,
-        at: token.next,
-        ground: false,
-        over: false,
-        met: cursor.met,
-    };
+    let behind = onward(cursor, token.next, false, cursor.met);
     body_at(program, output, names, variables, literals, behind, first)
+}
+
+// The rule with a number whose head stands at the cursor.
+fn with_head<'a>(
+    program: &'a [u8],
+    output: &'a [u8],
+    names: &mut [u32],
+    variables: &mut [u32],
+    literals: &mut [u64],
+    cursor: Cursor,
+    number: usize,
+) -> RuleRead
+    requires { ⌜ ReadyHead (now program) (now output) (now names) (now variables) (now literals) cursor number ⌝ }
+    ensures { λ r. ⌜ FillsRule (now (program .entry)) (now (output .entry)) (now (names .entry)) (now (variables .entry)) (now (literals .entry)) cursor number r (now (names .exit)) (now (variables .exit)) (now (literals .exit)) ⌝ }
+{
+    let read = atom_at(program, output, program, names, variables, cursor);
+    if read.progress.code != 0 {
+        return stopped(read.progress.code, read.progress.place);
+    }
+    let row = number * ROWS;
+    let codes = read.codes;
+    put_literal(literals, row, atom_row(HEAD, codes));
+    let behind = onward(cursor, read.progress.next, false, read.met);
+    let body = headed(program, output, names, variables, literals, behind, row + 1);
+    bodied(row as u64, body)
 }
 
 // The rule with a number where the cursor stands, with its dot.
@@ -119,37 +138,14 @@ pub fn rule_at<'a>(
     if token.kind == END {
         return ended();
     }
-    let place = token.place;
-    let row = number * ROWS;
-    if token.kind == IF {
-        if cursor.over {
-            return stopped(OVER, place);
-        }
-        let behind = Cursor {
-            base: cursor.base,
-            at: token.next,
-            ground: false,
-            over: false,
-            met: 0,
-        };
-        let body = body_at(program, output, names, variables, literals, behind, row + 1);
-        return bodied(NO_LITERAL, body);
+    if token.kind != IF {
+        return with_head(program, output, names, variables, literals, cursor, number);
     }
-    let read = atom_at(program, output, program, names, variables, cursor);
-    let progress = read.progress;
-    if progress.code != 0 {
-        let fault = progress.place;
-        return stopped(progress.code, fault);
+    if cursor.over {
+        return stopped(OVER, token.place);
     }
-    let codes = read.codes;
-    put_literal(literals, row, atom_row(HEAD, codes));
-    let behind = Cursor {
-        base: cursor.base,
-        at: progress.next,
-        ground: false,
-        over: false,
-        met: read.met,
-    };
-    let body = headed(program, output, names, variables, literals, behind, row + 1);
-    bodied(row as u64, body)
+    let first = number * ROWS + 1;
+    let behind = onward(cursor, token.next, false, 0);
+    let body = body_at(program, output, names, variables, literals, behind, first);
+    bodied(NO_LITERAL, body)
 }

@@ -1,5 +1,3 @@
-// Literals, bodies and rules of a program, read to rows of numbers.
+// Bodies and rules of a program, read to rows of numbers.
 pub mod body;
-pub mod builtin;
 pub mod clause;
-pub mod literal;

@@ -27,11 +27,20 @@ use Rattle.syntax.specs.Rules.{behind-rules, RulePlace}
 use Rattle.syntax.proofs.Tokens.{within, forward}
 use Rattle.syntax.proofs.Steps.{same-walk, wrong-token, at-end, dot-token, dot-stands}
 use Rattle.syntax.proofs.Sizes.{fault-none}
+use Rattle.terms.proofs.Readiness.{codes-wider}
+use Rattle.terms.specs.declared.cursor.Cursor.{Cursor}
 use Rattle.atoms.specs.declared.atom.AtomRead.{AtomRead}
 use Rattle.atoms.specs.Atoms.{ReadsAtom}
-use Rattle.atoms.proofs.Readiness.{codes-wider}
 use Rattle.factline.specs.declared.fact.FactRead.{FactRead}
-use Rattle.factline.specs.Facts.{at-fact, ReadsFact, read, ended, stopped, noFact, goneFact}
+use Rattle.factline.specs.Facts.{ReadyFact, ReadsFact, read, ended, stopped, noFact, goneFact}
+
+-- the cursor where a fact stands
+abbrev at-fact : ℕ → ℕ → Bool → Cursor
+at-fact base at over = record { base = base; at = at; ground = true; over = over; met = 0 }
+
+-- what is asked of a cursor says that it is one
+pub atom-on-line : (program output text : Bytes) (names variables : List ℕ) (k : Cursor) → ReadyFact program output text names variables k → (w : AtomRead) (names′ variables′ : List ℕ) → ReadsAtom program output text names variables k w names′ variables′ → ReadsAtom program output text names variables (at-fact (k .base) (k .at) (k .over)) w names′ variables′
+atom-on-line program output text names variables k asked w names′ variables′ h = rw (asked .on-line, asked .none-met) at h
 
 -- the answer behind facts, by what is wanted there
 as-ahead : (text : Bytes) (at : ℕ) (p : Program true) → behind-rules true text p at ≡ from true text (wants (atom-wanted (head-behind p))) [] at .answer

@@ -59,10 +59,9 @@ values-ground names (c ∷ cs) (v ∷ vs) (pair h hs) d (inr m) = values-ground 
 
 -- ---- the stored row
 
--- the row stands for the fact, its first number is the predicate's, and no number before or behind it is another
-pub record FactStored (names : List Bytes) (facts : List ℕ) (number : ℕ) (f : Fact Value) (facts′ : List ℕ) (predicate : ℕ) : Type 0 where
+-- the row stands for the fact, and no number before or behind it is another
+pub record FactStored (names : List Bytes) (facts : List ℕ) (number : ℕ) (f : Fact Value) (facts′ : List ℕ) : Type 0 where
   pub kept : Kept (number * fact-stride) (number * fact-stride + fact-stride) facts facts′
-  pub is-predicate : predicate ≡ fact-predicate facts′ number
   pub ground : (c : ℕ) → In c (fact-arguments facts′ number) → no-value < c
   pub stands : RelatedAtom (CodedName names) (Coded names) (fact-at facts′ number) f
 
@@ -83,12 +82,11 @@ module _ (names : List Bytes) (facts : List ℕ) (number : ℕ) (long : number *
   unfolding fact-at
   fact-is = ap₂ (λ (p : ℕ) (xs : List ℕ). atom-with p xs) predicate-is arguments-are
 
-  pub fact-stored : (f : Fact Value) → CodedAtom names codes (as-atom f) → FactStored names facts number f facts′ (codes .predicate)
+  pub fact-stored : (f : Fact Value) → CodedAtom names codes (as-atom f) → FactStored names facts number f facts′
   unfolding atom-with
   fact-stored f k =
       record {
         kept = rw stored (put-kept-of facts (number * fact-stride) row fits fact-stride nine);
-        is-predicate = sym predicate-is;
         ground = λ c m. values-ground _ _ (f .arguments) (k .terms) c (rw arguments-are at m);
         stands = rw fact-is (record { negative = k .related .negative; name = k .related .name; arguments = values-coded _ _ (f .arguments) (k .terms) });
       }
@@ -116,6 +114,3 @@ module _ (facts facts′ : List ℕ) (n : ℕ) (kept : Kept (n * fact-stride) (n
 
   pub facts-with : facts-of facts′ (n + 1) ≡ facts-of facts n ++ (fact-at facts′ n ∷ [])
   facts-with = from-on (fact-at facts′) (fact-at facts) n (λ k h. same-fact k h)
-
-  pub predicates-with : from (fact-predicate facts′) (n + 1) 0 ≡ from (fact-predicate facts) n 0 ++ (fact-predicate facts′ n ∷ [])
-  predicates-with = from-on (fact-predicate facts′) (fact-predicate facts) n (λ k h. same-predicate k h)

@@ -40,17 +40,19 @@ use Rattle.tables.specs.Layout.{fact-stride}
 use Rattle.tables.specs.Rows.{from, fact-predicate, fact-arguments, facts-of}
 use Rattle.tables.specs.Stored.{Kept}
 use Rattle.tables.proofs.Stored.{kept-self, kept-then, kept-wider}
+use Rattle.tables.proofs.Strides.{from-on}
 use Rattle.names.specs.Texts.{bytes-at}
 use Rattle.names.specs.Table.{names-of}
 use Rattle.names.proofs.Standing.{in-output, own-length}
 use Rattle.rows.specs.Growth.{Room, Source, Grows}
 use Rattle.rows.specs.Coding.{CodedAtom}
 use Rattle.rows.proofs.Growth.{grows-none, grows-then, room-after, keeps-facts}
-use Rattle.atoms.specs.Cursors.{Ready}
+use Rattle.terms.specs.Cursors.{ReadyCursor}
 use Rattle.factline.specs.declared.fact.FactRead.{FactRead}
-use Rattle.factline.specs.Facts.{at-fact, FactStands, ReadsFact, read, ended, stopped}
-use Rattle.factline.specs.Lines.{most-facts, Puttable, Put, Fillable, Holds, Filled, FillsLine, whole, refuses}
-use Rattle.factline.proofs.FactRows.{as-atom, FactStored, fact-stored, same-arguments, facts-with, predicates-with}
+use Rattle.factline.specs.declared.line.FactsRead.{FactsRead}
+use Rattle.factline.specs.Facts.{FactStands, ReadsFact, read, ended, stopped}
+use Rattle.factline.specs.Lines.{most-facts, Puttable, Put, Fillable, Listed, Holds, Filled, FillsLine, whole, refuses, FillsRows, factsRead}
+use Rattle.factline.proofs.FactRows.{as-atom, FactStored, fact-stored, same-arguments, facts-with}
 
 -- ---- a table of places
 
@@ -69,6 +71,27 @@ holds-more f n before l p room v e =
     one k true q h = let less = ltb-true k n q in getD-set-other l n k v 0 (λ z. omega arith) ∙ p .first k less
     one k false q h = let same : k ≡ n = omega (arith, ltb-false k n q) in rw same (getD-set-same l n v 0 room ∙ e)
 
+-- ---- the predicates
+
+pub listed-none : (facts l : List ℕ) → Listed facts 0 l l
+unfolding from
+listed-none facts l = record { are-predicates = refl; kept = kept-self 0 0 l }
+
+pub listed-more : (facts : List ℕ) (n : ℕ) (before l : List ℕ) → Listed facts n before l → n < length l → (v : ℕ) → v ≡ fact-predicate facts n → Listed facts (n + 1) before (set l n v)
+listed-more facts n before l p room v e =
+    let changed : Kept n (n + 1) l (set l n v) = record { long = length-set l n v; before = take-set-le n l n v (omega arith); behind = drop-set-lt (n + 1) l n v (omega arith) } in
+    record {
+      are-predicates =
+          rw (add-one n) (take-suc-set l n v room)
+          ∙ ap₂ (λ (a b : List ℕ). a ++ b) (p .are-predicates) (ap (λ (q : ℕ). q ∷ []) e)
+          ∙ inv (from-on (fact-predicate facts) (fact-predicate facts) n (λ k h. refl));
+      kept = kept-then (kept-wider (p .kept) 0 (n + 1) (omega arith) (omega arith)) (kept-wider changed 0 (n + 1) (omega arith) (omega arith));
+    }
+
+-- the predicates of all of them
+pub listed-all : (facts : List ℕ) (n m : ℕ) (before l : List ℕ) → Listed facts m before l → m ≡ n → Listed facts n before l
+listed-all facts n m before l p e = subst (λ (k : ℕ). Listed facts k before l) e p
+
 -- ---- the place of a fact, and the atom of its tree
 
 dot-ends : (final : Place) (ts : List (Placed Place Token)) (p : Place) → dot-at ts ≡ some p → dot-end final ts ≡ p .start + p .len
@@ -86,7 +109,7 @@ atom-meant x = some-inj (ap (λ (m : MeantRule Value). m .head) (fact-is-rule (f
 
 -- ---- the loop
 
-pub record Going (program output text : Bytes) (base : ℕ) (names₀ facts₀ predicates₀ starts₀ lengths₀ : List ℕ) (at n : ℕ) (names variables facts predicates starts lengths : List ℕ) : Type 0 where
+pub record Going (program output text : Bytes) (base : ℕ) (names₀ facts₀ starts₀ lengths₀ : List ℕ) (at n : ℕ) (names variables facts starts lengths : List ℕ) : Type 0 where
   pub few : n ≤ most-facts
   pub trees : Program true
   pub size : count trees ≡ n
@@ -97,16 +120,14 @@ pub record Going (program output text : Bytes) (base : ℕ) (names₀ facts₀ p
   pub room-for-variables : length variables ≡ 32
   pub grows : Grows program output names₀ at names
   pub facts-kept : Kept 0 (n * fact-stride) facts₀ facts
-  pub predicates-kept : Kept 0 n predicates₀ predicates
   pub ground : (k : ℕ) → k < n → (v : ℕ) → In v (fact-arguments facts k) → no-value < v
   pub stands : Pairwise (RelatedAtom (CodedName (names-of program output names)) (Coded (names-of program output names))) (facts-of facts n) (facts-for trees)
-  pub are-predicates : take n predicates ≡ from (fact-predicate facts) n 0
   pub starts-hold : Holds (λ k. base + sentence true text k .start) n starts₀ starts
   pub lengths-hold : Holds (λ k. sentence true text k .len) n lengths₀ lengths
 
-pub going-start : (program output text : Bytes) (base : ℕ) (names variables facts predicates starts lengths : List ℕ) {n : ℕ} → Room program output names n → length variables ≡ 32 → Going program output text base names facts predicates starts lengths 0 0 names variables facts predicates starts lengths
+pub going-start : (program output text : Bytes) (base : ℕ) (names variables facts starts lengths : List ℕ) {n : ℕ} → Room program output names n → length variables ≡ 32 → Going program output text base names facts starts lengths 0 0 names variables facts starts lengths
 unfolding from facts-for count
-going-start program output text base names variables facts predicates starts lengths room long =
+going-start program output text base names variables facts starts lengths room long =
     record {
       few = omega arith;
       trees = empty;
@@ -118,15 +139,13 @@ going-start program output text base names variables facts predicates starts len
       room-for-variables = long;
       grows = grows-none program output names 0 (room .in-order);
       facts-kept = kept-self 0 0 facts;
-      predicates-kept = kept-self 0 0 predicates;
       ground = λ k h. absurd (let z : ⊥ = omega arith in z);
       stands = end;
-      are-predicates = refl;
       starts-hold = holds-none _ starts;
       lengths-hold = holds-none _ lengths;
     }
 
-module _ (program output : Bytes) (line : Place) (text : Bytes) (et : text ≡ part output line) (names₀ facts₀ predicates₀ starts₀ lengths₀ : List ℕ) (ask : Fillable program output line names₀ facts₀ predicates₀ starts₀ lengths₀) (at n : ℕ) (names variables facts predicates starts lengths : List ℕ) (g : Going program output text (line .start) names₀ facts₀ predicates₀ starts₀ lengths₀ at n names variables facts predicates starts lengths) where
+module _ (program output : Bytes) (line : Place) (text : Bytes) (et : text ≡ part output line) (names₀ facts₀ starts₀ lengths₀ : List ℕ) (ask : Fillable program output line names₀ facts₀ starts₀ lengths₀) (at n : ℕ) (names variables facts starts lengths : List ℕ) (g : Going program output text (line .start) names₀ facts₀ starts₀ lengths₀ at n names variables facts starts lengths) where
   no-longer : length text ≤ line .len
   no-longer = rw et (simp (length-take, length-drop) (omega arith))
 
@@ -138,8 +157,8 @@ module _ (program output : Bytes) (line : Place) (text : Bytes) (et : text ≡ p
       inv e ∙ inv (own-length program output place) ∙ ap (λ (b : Bytes). bytes-at program output (place-from (length program + line .start) (length b))) e
 
   -- there is room for the names of what lies ahead
-  pub going-ready : (over : Bool) → Ready program output text names variables (at-fact (length program + line .start) at over)
-  going-ready over =
+  pub going-ready : (ground over : Bool) → ReadyCursor program output text names variables (record { base = length program + line .start; at = at; ground = ground; over = over; met = 0 })
+  going-ready ground over =
       let short = no-longer in
       record {
         source = source;
@@ -158,38 +177,38 @@ module _ (program output : Bytes) (line : Place) (text : Bytes) (et : text ≡ p
     on-line : (a : Answer Place (Program true)) → behind-rules true text empty 0 ≡ a → ReadAs true (part output line) a
     on-line a e = subst (λ (b : Bytes). ReadAs true b a) et (reading-of true text a e)
 
-    pub line-stops : (r .progress .code ≡ 0 → ⊥) → FillsLine program output line names₀ facts₀ predicates₀ starts₀ lengths₀ (record { code = r .progress .code; place = r .progress .place; count = 0 }) names′ facts predicates starts lengths
+    pub line-stops : (r .progress .code ≡ 0 → ⊥) → (w : FactsRead) → w ≡ factsRead (r .progress .code) (r .progress .place) 0 → FillsRows program output line names₀ facts₀ starts₀ lengths₀ w names′ facts starts lengths
     unfolding place
-    line-stops ne = go gr
+    line-stops ne w ew = rw ew (record { few = omega arith; fills = λ predicates predicates′ h. go predicates predicates′ gr })
       where
-        go : ReadsFact program output names (leb 1_024 n) text at r names′ → FillsLine program output line names₀ facts₀ predicates₀ starts₀ lengths₀ (record { code = r .progress .code; place = r .progress .place; count = 0 }) names′ facts predicates starts lengths
-        go (read c d o x s q) = absurd (ne c)
-        go (ended c d k q) = absurd (ne c)
-        go (stopped c q) = refuses c refl (on-line _ (g .walks ∙ q place))
+        go : (predicates predicates′ : List ℕ) → ReadsFact program output names (leb 1_024 n) text at r names′ → FillsLine program output line names₀ facts₀ predicates starts₀ lengths₀ (factsRead (r .progress .code) (r .progress .place) 0) names′ facts predicates′ starts lengths
+        go predicates predicates′ (read c d o x s q) = absurd (ne c)
+        go predicates predicates′ (ended c d k q) = absurd (ne c)
+        go predicates predicates′ (stopped c q) = refuses c refl (on-line _ (g .walks ∙ q place))
 
     -- at the end all facts have their rows
     module _ (e : r .progress .code ≡ 0) where
-      pub line-ends : r .ended ≡ true → FillsLine program output line names₀ facts₀ predicates₀ starts₀ lengths₀ (record { code = 0; place = nowhere; count = n }) names′ facts predicates starts lengths
-      line-ends z = go gr
+      pub line-ends : r .ended ≡ true → (w : FactsRead) → w ≡ factsRead 0 nowhere n → FillsRows program output line names₀ facts₀ starts₀ lengths₀ w names′ facts starts lengths
+      line-ends z w ew = rw ew (record { few = g .few; fills = λ predicates predicates′ h. go predicates predicates′ h gr })
         where
-          filled : Filled program output line (g .trees) names₀ facts₀ predicates₀ starts₀ lengths₀ n names facts predicates starts lengths
-          filled =
+          filled : (predicates predicates′ : List ℕ) → Listed facts n predicates predicates′ → Filled program output line (g .trees) names₀ facts₀ predicates starts₀ lengths₀ n names facts predicates′ starts lengths
+          filled predicates predicates′ h =
               record {
                 size = inv (g .size);
                 grows = grows-then program output (g .grows) (line .len) (grows-none program output names 0 (g .grows .in-order)) (let w = g .within-text in let l = no-longer in omega arith);
                 table = record { long = let l = g .facts-kept .long in let k = g .few in let y = ask .facts-long in omega arith; few = g .few; ground = g .ground };
                 stands = g .stands;
-                are-predicates = g .are-predicates;
+                are-predicates = h .are-predicates;
                 facts-kept = g .facts-kept;
-                predicates-kept = g .predicates-kept;
+                predicates-kept = h .kept;
                 starts-hold = subst (λ (b : Bytes). Holds (λ k. line .start + sentence true b k .start) n starts₀ starts) et (g .starts-hold);
                 lengths-hold = subst (λ (b : Bytes). Holds (λ k. sentence true b k .len) n lengths₀ lengths) et (g .lengths-hold);
               }
 
-          go : ReadsFact program output names (leb 1_024 n) text at r names′ → FillsLine program output line names₀ facts₀ predicates₀ starts₀ lengths₀ (record { code = 0; place = nowhere; count = n }) names′ facts predicates starts lengths
-          go (read c d o x s q) = absurd (false≢true (inv d ∙ z))
-          go (ended c d k q) = rw k (whole refl refl (g .trees) (on-line _ (g .walks ∙ q (g .trees))) filled)
-          go (stopped c q) = absurd (omega arith)
+          go : (predicates predicates′ : List ℕ) → Listed facts n predicates predicates′ → ReadsFact program output names (leb 1_024 n) text at r names′ → FillsLine program output line names₀ facts₀ predicates starts₀ lengths₀ (factsRead 0 nowhere n) names′ facts predicates′ starts lengths
+          go predicates predicates′ h (read c d o x s q) = absurd (false≢true (inv d ∙ z))
+          go predicates predicates′ h (ended c d k q) = rw k (whole refl refl (g .trees) (on-line _ (g .walks ∙ q (g .trees))) (filled predicates predicates′ h))
+          go predicates predicates′ h (stopped c q) = absurd (omega arith)
 
       -- else another fact stands here
       module _ (z : r .ended ≡ false) where
@@ -223,12 +242,11 @@ module _ (program output : Bytes) (line : Place) (text : Bytes) (et : text ≡ p
         forward : r .start ≤ r .progress .next
         forward = let s = start-before true text at (tokenRead true text at) refl (next .stands .some-token) in let a = next .stands .start in let b = ends-at in omega arith
 
-        pub puttable : Puttable facts predicates starts lengths n (line .start) r
+        pub puttable : Puttable facts starts lengths n (line .start) r
         puttable =
             let m = facts-room in
             record {
               long = let l = g .facts-kept .long in let y = ask .facts-long in omega arith;
-              predicates-long = let l = g .predicates-kept .long in let y = ask .predicates-long in omega arith;
               starts-long = let l = g .starts-hold .same-size in let y = ask .starts-long in omega arith;
               lengths-long = let l = g .lengths-hold .same-size in let y = ask .lengths-long in omega arith;
               number-small = m;
@@ -236,8 +254,8 @@ module _ (program output : Bytes) (line : Place) (text : Bytes) (et : text ≡ p
               small = let i = ask .inside in let o = ask .room .in-order .output-size in let w = next .stands .inside in let l = no-longer in omega arith;
             }
 
-        module _ (facts′ predicates′ starts′ lengths′ : List ℕ) (put : Put facts predicates starts lengths n (line .start) r facts′ predicates′ starts′ lengths′) where
-          its-row : FactStored (names-of program output names′) facts n (fact-for (fact (next .tree-of))) facts′ (r .codes .predicate)
+        module _ (facts′ starts′ lengths′ : List ℕ) (put : Put facts starts lengths n (line .start) r facts′ starts′ lengths′) where
+          its-row : FactStored (names-of program output names′) facts n (fact-for (fact (next .tree-of))) facts′
           its-row = fact-stored (names-of program output names′) facts n (puttable .long) (r .codes) (put .row) (put .is-row) (put .nine) facts′ (put .facts-so) (fact-for (fact (next .tree-of))) (subst (CodedAtom (names-of program output names′) (r .codes)) (atom-meant (next .tree-of)) (next .stands .codes .coded))
 
           grounds : (k : ℕ) → k < n + 1 → (v : ℕ) → In v (fact-arguments facts′ k) → no-value < v
@@ -253,12 +271,11 @@ module _ (program output : Bytes) (line : Place) (text : Bytes) (et : text ≡ p
                   below : (k ≡ n → ⊥) → k < n
                   below other = omega arith
 
-          pub going-on : (variables′ : List ℕ) → length names′ ≡ length names₀ → length variables′ ≡ 32 → Going program output text (line .start) names₀ facts₀ predicates₀ starts₀ lengths₀ (r .progress .next) (n + 1) names′ variables′ facts′ predicates′ starts′ lengths′
+          pub going-on : (variables′ : List ℕ) → length names′ ≡ length names₀ → length variables′ ≡ 32 → Going program output text (line .start) names₀ facts₀ starts₀ lengths₀ (r .progress .next) (n + 1) names′ variables′ facts′ starts′ lengths′
           unfolding facts-for count
           going-on variables′ long long′ =
               let room = facts-room in
               let y = puttable in
-              let changed : Kept n (n + 1) predicates (set predicates n (r .codes .predicate)) = record { long = length-set predicates n (r .codes .predicate); before = take-set-le n predicates n (r .codes .predicate) (omega arith); behind = drop-set-lt (n + 1) predicates n (r .codes .predicate) (omega arith) } in
               record {
                 few = omega arith;
                 trees = g .trees then fact (next .tree-of);
@@ -270,13 +287,8 @@ module _ (program output : Bytes) (line : Place) (text : Bytes) (et : text ≡ p
                 room-for-variables = long′;
                 grows = grows-then program output (g .grows) (r .progress .next) (next .stands .codes .grows) (let f = next .stands .forward in omega arith);
                 facts-kept = kept-then (kept-wider (g .facts-kept) 0 ((n + 1) * fact-stride) (omega arith) (omega arith)) (kept-wider (its-row .kept) 0 ((n + 1) * fact-stride) (omega arith) (omega arith));
-                predicates-kept = rw (put .predicates-so) (kept-then (kept-wider (g .predicates-kept) 0 (n + 1) (omega arith) (omega arith)) (kept-wider changed 0 (n + 1) (omega arith) (omega arith)));
                 ground = grounds;
                 stands = rw (facts-with facts facts′ n (its-row .kept)) (pairwise-append (keeps-facts program output (next .stands .codes .grows) (g .stands)) (pair (its-row .stands) end));
-                are-predicates =
-                    rw (put .predicates-so, add-one n) (take-suc-set predicates n (r .codes .predicate) (y .predicates-long))
-                    ∙ ap₂ (λ (a b : List ℕ). a ++ b) (g .are-predicates) (ap (λ (q : ℕ). q ∷ []) (its-row .is-predicate))
-                    ∙ inv (predicates-with facts facts′ n (its-row .kept));
                 starts-hold = rw (put .starts-so) (holds-more (λ k. line .start + sentence true text k .start) n starts₀ starts (g .starts-hold) (y .starts-long) (line .start + r .start) (rw its-place));
                 lengths-hold = rw (put .lengths-so) (holds-more (λ k. sentence true text k .len) n lengths₀ lengths (g .lengths-hold) (y .lengths-long) (r .progress .next - r .start) (rw its-place));
               }

@@ -16,13 +16,16 @@ use Rattle.syntax.specs.Fills.{going, halted}
 use Rattle.syntax.specs.Rules.{behind-rules, RulePlace}
 use Rattle.rows.specs.declared.literal.AtomCodes.{AtomCodes}
 use Rattle.rows.specs.Coding.{CodedAtom, Codes}
-use Rattle.atoms.specs.declared.cursor.Cursor.{Cursor}
+use Rattle.terms.specs.declared.cursor.Cursor.{Cursor}
+use Rattle.terms.specs.Cursors.{ReadyCursor}
 use Rattle.atoms.specs.Arguments.{no-codes}
 use Rattle.factline.specs.declared.fact.FactRead.{FactRead}
 
--- the cursor where a fact stands: no variable has been met
-abbrev pub at-fact : ℕ → ℕ → Bool → Cursor
-at-fact base at over = record { base = base; at = at; ground = true; over = over; met = 0 }
+-- what is asked: a cursor on a facts line, where no variable has been met
+pub record ReadyFact (program output text : Bytes) (names variables : List ℕ) (k : Cursor) : Type 0 where
+  pub ready : ReadyCursor program output text names variables k
+  pub on-line : k .ground ≡ true
+  pub none-met : k .met ≡ 0
 
 -- the numbers stand for the fact x, beside the table of names afterwards; and where it stands
 pub record FactStands (program output : Bytes) (names : List ℕ) (text : Bytes) (at : ℕ) (x : Atom true) (r : FactRead) (names′ : List ℕ) : Type 0 where

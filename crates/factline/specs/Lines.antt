@@ -33,34 +33,36 @@ most-facts = most-rules true
 -- ---- one fact into the tables
 
 -- what is asked: room in the tables, and a place whose numbers fit them
-pub record Puttable (facts predicates starts lengths : List ℕ) (number base : ℕ) (fact : FactRead) : Type 0 where
+pub record Puttable (facts starts lengths : List ℕ) (number base : ℕ) (fact : FactRead) : Type 0 where
   pub long : number * fact-stride + fact-stride ≤ length facts
-  pub predicates-long : number < length predicates
   pub starts-long : number < length starts
   pub lengths-long : number < length lengths
   pub number-small : number < most-facts
   pub forward : fact .start ≤ fact .progress .next
   pub small : base + fact .progress .next < number-limit
 
-pub record Put (facts predicates starts lengths : List ℕ) (number base : ℕ) (fact : FactRead) (facts′ predicates′ starts′ lengths′ : List ℕ) : Type 0 where
+pub record Put (facts starts lengths : List ℕ) (number base : ℕ) (fact : FactRead) (facts′ starts′ lengths′ : List ℕ) : Type 0 where
   pub row : List ℕ
   pub is-row : row ≡ fact .codes .predicate ∷ fact .codes .terms
   pub nine : length row ≡ fact-stride
   pub facts-so : facts′ ≡ with-row facts (number * fact-stride) row
-  pub predicates-so : predicates′ ≡ set predicates number (fact .codes .predicate)
   pub starts-so : starts′ ≡ set starts number (base + fact .start)
   pub lengths-so : lengths′ ≡ set lengths number (fact .progress .next - fact .start)
 
 -- ---- the line
 
 -- what is asked: a line of the output, room in the table of names for as many as the line has bytes, and room in the other tables
-pub record Fillable (program output : Bytes) (line : Place) (names facts predicates starts lengths : List ℕ) : Type 0 where
+pub record Fillable (program output : Bytes) (line : Place) (names facts starts lengths : List ℕ) : Type 0 where
   pub inside : line .start + line .len ≤ length output
   pub room : Room program output names (line .len)
   pub facts-long : most-facts * fact-stride ≤ length facts
-  pub predicates-long : most-facts ≤ length predicates
   pub starts-long : most-facts ≤ length starts
   pub lengths-long : most-facts ≤ length lengths
+
+-- the first n places hold the predicates of the facts in their rows, and every later one is as it was
+pub record Listed (facts : List ℕ) (n : ℕ) (before left : List ℕ) : Type 0 where
+  pub are-predicates : take n left ≡ from (fact-predicate facts) n 0
+  pub kept : Kept 0 n before left
 
 -- the first n places hold f, and every later one is as it was
 pub record Holds (f : ℕ → ℕ) (n : ℕ) (before left : List ℕ) : Type 0 where
@@ -84,3 +86,11 @@ pub record Filled (program output : Bytes) (line : Place) (fs : Program true) (n
 pub data FillsLine (program output : Bytes) (line : Place) (names facts predicates starts lengths : List ℕ) (r : FactsRead) (names′ facts′ predicates′ starts′ lengths′ : List ℕ) : Type 0 where
   whole : r .code ≡ 0 → r .place ≡ nowhere → (fs : Program true) → ReadAs true (part output line) (tree fs) → Filled program output line fs names facts predicates starts lengths (r .count) names′ facts′ predicates′ starts′ lengths′ → FillsLine program output line names facts predicates starts lengths r names′ facts′ predicates′ starts′ lengths′
   refuses : 2 ≤ r .code → r .count ≡ 0 → ReadAs true (part output line) (refused (r .code) (r .place)) → FillsLine program output line names facts predicates starts lengths r names′ facts′ predicates′ starts′ lengths′
+
+-- the same, once the predicates of so many facts are listed
+pub record FillsRows (program output : Bytes) (line : Place) (names facts starts lengths : List ℕ) (r : FactsRead) (names′ facts′ starts′ lengths′ : List ℕ) : Type 0 where
+  pub few : r .count ≤ most-facts
+  pub fills : (predicates predicates′ : List ℕ) → Listed facts′ (r .count) predicates predicates′ → FillsLine program output line names facts predicates starts lengths r names′ facts′ predicates′ starts′ lengths′
+
+abbrev pub factsRead : ℕ → Place → ℕ → FactsRead
+factsRead code place count = record { code = code; place = place; count = count }

@@ -1,13 +1,12 @@
 // A fact of a facts line, read as its numbers.
 ghost use mathlib.Core.Path.{_≡_};
-ghost use Rattle.atoms.specs.Cursors.{Ready};
-ghost use Rattle.factline.specs.Facts.{at-fact, noFact, goneFact, ReadsFact};
+ghost use Rattle.factline.specs.Facts.{noFact, goneFact, ReadyFact, ReadsFact};
 use atoms::atom::atom_at;
-use atoms::cursor::Cursor;
 use rows::literal::AtomCodes;
 use syntax::token::Progress;
 use syntax::token::token_at;
 use syntax::word::WRONG;
+use terms::cursor::Cursor;
 use tokens::NOWHERE;
 use tokens::Place;
 use tokens::kind::DOT;
@@ -57,47 +56,33 @@ fn gone(codes: AtomCodes, start: usize, next: usize) -> FactRead
     }
 }
 
-// The fact at a place of a line, with its dot. `base`: where the line starts in the two texts. `over`: the fact is one too many.
-// `variables` has room for those of a rule, though a fact has none.
+// The fact where the cursor stands on a line, with its dot. `variables` has room for those of a rule, though a fact has none.
 pub fn fact_at<'a>(
     program: &'a [u8],
     output: &'a [u8],
     text: &'a [u8],
     names: &mut [u32],
     variables: &mut [u32],
-    base: usize,
-    at: usize,
-    over: bool,
+    cursor: Cursor,
 ) -> FactRead
-    requires { ⌜ Ready (now program) (now output) (now text) (now names) (now variables) (at-fact base at over) ⌝ }
-    ensures { λ r. ⌜ ReadsFact (now (program .entry)) (now (output .entry)) (now (names .entry)) over (now (text .entry)) at r (now (names .exit)) ⌝ }
+    requires { ⌜ ReadyFact (now program) (now output) (now text) (now names) (now variables) cursor ⌝ }
+    ensures { λ r. ⌜ ReadsFact (now (program .entry)) (now (output .entry)) (now (names .entry)) (cursor .over) (now (text .entry)) (cursor .at) r (now (names .exit)) ⌝ }
 {
-    let token = token_at(text, at, true);
-    let first = token.place;
+    let token = token_at(text, cursor.at, true);
     if token.kind == END {
         return without(0, NOWHERE, true);
     }
     if token.kind == IF {
-        return without(WRONG, first, false);
+        return without(WRONG, token.place, false);
     }
-    let here = Cursor {
-        base,
-        at,
-        ground: true,
-        over,
-        met: 0,
-    };
-    let read = atom_at(program, output, text, names, variables, here);
-    let progress = read.progress;
-    if progress.code != 0 {
-        let place = progress.place;
-        return without(progress.code, place, false);
+    let read = atom_at(program, output, text, names, variables, cursor);
+    if read.progress.code != 0 {
+        return without(read.progress.code, read.progress.place, false);
     }
     let codes = read.codes;
-    let dot = token_at(text, progress.next, true);
+    let dot = token_at(text, read.progress.next, true);
     if dot.kind != DOT {
-        let place = dot.place;
-        return without(WRONG, place, false);
+        return without(WRONG, dot.place, false);
     }
-    gone(codes, first.start, dot.next)
+    gone(codes, token.place.start, dot.next)
 }

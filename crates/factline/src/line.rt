@@ -1,12 +1,17 @@
-// The facts of a facts line, one after the other, to their rows.
+// The facts of a facts line, one after the other, to their rows; and their predicates.
 ghost use mathlib.Core.Path.{_≡_};
 ghost use mathlib.Core.List.{_∷_};
-ghost use Rattle.factline.specs.Lines.{Fillable, FillsLine, Puttable, Put};
+ghost use Prim.Native.Nat.{_*_, _≤_};
+ghost use lib.ListN.{length};
+ghost use Rattle.tables.specs.Layout.{fact-stride};
+ghost use Rattle.factline.specs.Lines.{factsRead, Fillable, FillsRows, Puttable, Put, Listed};
 use crate::fact::FactRead;
 use crate::fact::fact_at;
 use rows::literal::AtomCodes;
 use tables::FACT;
 use tables::row::put_row;
+use terms::cursor::Cursor;
+use terms::cursor::onward;
 use tokens::NOWHERE;
 use tokens::Place;
 use tokens::parts::part;
@@ -19,6 +24,12 @@ pub struct FactsRead {
     pub code: u8,
     pub place: Place,
     pub count: usize,
+}
+
+fn facts_read(code: u8, place: Place, count: usize) -> FactsRead
+    ensures { λ r. ⌜ r ≡ factsRead code place count ⌝ }
+{
+    FactsRead { code, place, count }
 }
 
 // The predicate's number, and those of the arguments behind it.
@@ -39,68 +50,73 @@ fn fact_row(codes: AtomCodes) -> [u64; FACT]
     ]
 }
 
-// The fact with a number, on a line that starts at `base` of the output: its row, its predicate, and where it stands.
+// The fact with a number, on a line that starts at `base` of the output: its row, and where it stands.
 fn put_fact(
     facts: &mut [u64],
-    predicates: &mut [u64],
     starts: &mut [u32],
     lengths: &mut [u32],
     number: usize,
     base: usize,
     fact: FactRead,
 )
-    requires { ⌜ Puttable (now facts) (now predicates) (now starts) (now lengths) number base fact ⌝ }
-    ensures { λ _. ⌜ Put (now (facts .entry)) (now (predicates .entry)) (now (starts .entry)) (now (lengths .entry)) number base fact (now (facts .exit)) (now (predicates .exit)) (now (starts .exit)) (now (lengths .exit)) ⌝ }
+    requires { ⌜ Puttable (now facts) (now starts) (now lengths) number base fact ⌝ }
+    ensures { λ _. ⌜ Put (now (facts .entry)) (now (starts .entry)) (now (lengths .entry)) number base fact (now (facts .exit)) (now (starts .exit)) (now (lengths .exit)) ⌝ }
 {
     let codes = fact.codes;
     let progress = fact.progress;
     let row = fact_row(codes);
     put_row(facts, number * FACT, &row);
-    predicates[number] = codes.predicate;
     starts[number] = (base + fact.start) as u32;
     lengths[number] = (progress.next - fact.start) as u32;
 }
 
-// All facts of a line of the output: how many they are, with their rows, their predicates and their places in the tables; or the refusal.
+// All facts of a line of the output: how many they are, with their rows and their places in the tables; or the refusal.
 pub fn read_line<'a>(
     program: &'a [u8],
     output: &'a [u8],
     line: Place,
     names: &mut [u32],
     facts: &mut [u64],
-    predicates: &mut [u64],
     starts: &mut [u32],
     lengths: &mut [u32],
 ) -> FactsRead
-    requires { ⌜ Fillable (now program) (now output) line (now names) (now facts) (now predicates) (now starts) (now lengths) ⌝ }
-    ensures { λ r. ⌜ FillsLine (now (program .entry)) (now (output .entry)) line (now (names .entry)) (now (facts .entry)) (now (predicates .entry)) (now (starts .entry)) (now (lengths .entry)) r (now (names .exit)) (now (facts .exit)) (now (predicates .exit)) (now (starts .exit)) (now (lengths .exit)) ⌝ }
+    requires { ⌜ Fillable (now program) (now output) line (now names) (now facts) (now starts) (now lengths) ⌝ }
+    ensures { λ r. ⌜ FillsRows (now (program .entry)) (now (output .entry)) line (now (names .entry)) (now (facts .entry)) (now (starts .entry)) (now (lengths .entry)) r (now (names .exit)) (now (facts .exit)) (now (starts .exit)) (now (lengths .exit)) ⌝ }
 {
     let text = part(output, line);
-    let base = program.len() + line.start;
+    let start = Cursor {
+        base: program.len() + line.start,
+        at: 0,
+        ground: true,
+        over: false,
+        met: 0,
+    };
     let mut variables = [0u32; MOST_VARIABLES * PLACE];
     let mut at = 0;
     let mut count = 0;
     loop {
-        let over = MOST_FACTS <= count;
-        let read = fact_at(program, output, text, names, &mut variables, base, at, over);
-        let progress = read.progress;
-        let place = progress.place;
-        if progress.code != 0 {
-            return FactsRead {
-                code: progress.code,
-                place,
-                count: 0,
-            };
+        let here = onward(start, at, MOST_FACTS <= count, 0);
+        let read = fact_at(program, output, text, names, &mut variables, here);
+        if read.progress.code != 0 {
+            return facts_read(read.progress.code, read.progress.place, 0);
         }
         if read.ended {
-            return FactsRead {
-                code: 0,
-                place: NOWHERE,
-                count,
-            };
+            return facts_read(0, NOWHERE, count);
         }
-        put_fact(facts, predicates, starts, lengths, count, line.start, read);
-        at = progress.next;
+        put_fact(facts, starts, lengths, count, line.start, read);
+        at = read.progress.next;
         count += 1;
+    }
+}
+
+// The predicates of the first `count` facts, from their rows.
+pub fn put_predicates(facts: &[u64], predicates: &mut [u64], count: usize)
+    requires { ⌜ (count * fact-stride ≤ length (now facts)) × (count ≤ length (now predicates)) ⌝ }
+    ensures { λ _. ⌜ Listed (now (facts .entry)) count (now (predicates .entry)) (now (predicates .exit)) ⌝ }
+{
+    let mut k = 0;
+    while k < count {
+        predicates[k] = facts[k * FACT];
+        k += 1;
     }
 }

@@ -9,7 +9,7 @@ use Rattle.meaning.specs.Values.{same-number, same-bytes, same-value, by
 use Rattle.meaning.specs.Safety.{in-term, in-side, in-atom, positives, in-positives, term-bound, side-bound, atom-bound, literal-bound, head-bound, when, else, gain-left, gain, next-gain, with, scan, equations, bound-after, bound, safe}
 use Rattle.meaning.specs.Instances.{same-sign, same-predicate, same-arguments, same-fact, member, value, instance, side-value, compares, true-in, head-true}
 use Rattle.meaning.specs.Matchings.{value?, operate?, side?}
-use Rattle.meaning.specs.Outcomes.{Answers}
+use Rattle.meaning.specs.Outcomes.{MeansOutcome}
 use Rattle.meaning.specs.Ascii.{last-bytes, ascii}
 use Rattle.meaning.specs.Examples.{Example, examples}
 use Rattle.meaning.specs.Graph.{fires, level, agree, least, rounds}
@@ -32,11 +32,11 @@ computed : Computed examples
 unfolding opened
 computed = ((refl, refl), ((refl, refl), ((refl, refl), ((refl, refl), ((refl, refl), ((refl, refl), ((refl, refl), ((refl, refl), ((refl, refl), ((refl, refl), ((refl, refl), ((refl, refl), tt))))))))))))
 
-answered : (l : List Example) → Computed l → (e : Example) → In e l → Answers values in-range (e .program) (e .candidate) (e .outcome)
+answered : (l : List Example) → Computed l → (e : Example) → In e l → MeansOutcome values in-range (e .program) (e .candidate) (e .outcome)
 answered [] r e m = absurd m
 answered (x ∷ xs) r e (inl p) = rw p (settled-outcome values value-laws in-range (x .program) (x .candidate) (r .0 .0) (x .outcome) .1 (r .0 .1))
 answered (x ∷ xs) r e (inr m) = answered xs (r .1) e m
 
 -- each of the twelve has the outcome that document 01 states
-pub twelve : (e : Example) → In e examples → Answers values in-range (e .program) (e .candidate) (e .outcome)
+pub twelve : (e : Example) → In e examples → MeansOutcome values in-range (e .program) (e .candidate) (e .outcome)
 twelve e m = answered examples computed e m

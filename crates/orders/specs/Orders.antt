@@ -5,7 +5,7 @@ use Prim.Native.Nat.{ℕ, _+_, _≤_, _<_}
 use lib.ListN.{length}
 use Rattle.tables.specs.Layout.{comparison-column, first-literal-column, literals-column}
 use Rattle.tables.specs.Rows.{literal-column, rule-column}
-use Rattle.store.specs.Store.{store-size, most-rules, most-rows, literals-in, rules-in}
+use Rattle.store.specs.Store.{store-size, rule-room, literal-room, literals-in, rules-in}
 use Rattle.matchings.specs.Tables.{InBody}
 
 -- the literals from `first` up to `end` compare by `=` and `!=` alone
@@ -18,5 +18,5 @@ pub record PlainRule (store : List ℕ) (total : ℕ) : Type 0 where
 -- the bodies of so many rules lie in the store
 pub record RulesInside (store : List ℕ) (total : ℕ) : Type 0 where
   pub long : length store ≡ store-size
-  pub few : total ≤ most-rules
-  pub body : (r : ℕ) → r < total → rule-column (rules-in store) r first-literal-column + rule-column (rules-in store) r literals-column ≤ most-rows
+  pub few : total ≤ rule-room
+  pub body : (r : ℕ) → r < total → rule-column (rules-in store) r first-literal-column + rule-column (rules-in store) r literals-column ≤ literal-room

@@ -9,12 +9,12 @@ ghost use mathlib.Core.Path.{_≡_};
 ghost use mathlib.Core.Bool.{false};
 ghost use Prim.Native.Nat.{_<_, _≤_, _+_};
 ghost use lib.ListN.{length};
-ghost use Rattle.store.specs.Store.{store-size, most-rows};
+ghost use Rattle.store.specs.Store.{store-size, literal-room};
 ghost use Rattle.orders.specs.Orders.{Plain, PlainRule, RulesInside};
 
 // One of the literals from first up to end does.
 fn body_orders(store: &[u64], first: usize, end: usize) -> bool
-    requires { ⌜ (length (now store) ≡ store-size) × (end ≤ most-rows) ⌝ }
+    requires { ⌜ (length (now store) ≡ store-size) × (end ≤ literal-room) ⌝ }
     ensures { λ b. ⌜ (b ≡ false → Plain (now (store .entry)) first end) ⌝ }
 {
     let mut l = first;

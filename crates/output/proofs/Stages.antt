@@ -2,7 +2,7 @@
 use mathlib.Core.Path.{_≡_, refl, sym as inv, ap, subst, _∙_}
 use mathlib.Core.Bool.{Bool, true, false, cond}
 use mathlib.Core.List.{List, [], _∷_}
-use Prim.Native.Nat.{ℕ, _+_, _≤_, _<_}
+use Prim.Native.Nat.{ℕ, _+_, _*_, _≤_, _<_}
 use native.Mathlib.Omega.{arith}
 use lib.Dec.{eqb}
 use lib.ListN.{length, length-take, length-drop}
@@ -29,11 +29,12 @@ use Rattle.stages.specs.Stage.{on, stop, Stage, stops, goes, given, passed, rea
 use Rattle.stages.proofs.Unique.{on-stop, on-inj}
 use Rattle.factline.specs.declared.line.FactsRead.{FactsRead}
 use Rattle.rows.proofs.Growth.{room-less}
-use Rattle.factline.specs.Lines.{Fillable, FillsLine, whole, refuses}
+use Rattle.tables.specs.Layout.{fact-stride}
+use Rattle.factline.specs.Lines.{most-facts, Fillable, FillsLine, whole, refuses}
 use Rattle.output.specs.declared.OutputRead.{OutputRead}
 use Rattle.output.specs.Output.{Report, facts, claim-none, claim-unknown, Opened, Opening, opens, on-line, Closing, Behind}
 use Rattle.output.specs.Answers.{refused as refused-fields, reported as reported-fields, report-fields, line-fields, Closes}
-use Rattle.output.specs.Tables.{Tables, Lent, FactsHeld, Fills, FillsOutput}
+use Rattle.output.specs.Tables.{OutputTables, Lent, FactsHeld, FillsStage, FillsOutput}
 
 -- ---- the lines behind the report
 
@@ -71,27 +72,27 @@ none-claims line fs e = let z : _≡_ {A = ℕ} 0 1 = cc in omega arith
 unknown-claims : (line : Place) (fs : Program true) → claim-unknown ≡ facts line fs → ⊥
 unknown-claims line fs e = let z : _≡_ {A = ℕ} 0 1 = cc in omega arith
 
-module _ (program text : Bytes) (t u : Tables) where
+module _ (program text : Bytes) (t u : OutputTables) where
   -- a refusal fills nothing
-  refusal-fills : {S : Stage Report} (n : ℕ) (p : Part) → S (stop n p) → (r : OutputRead) → r ≡ refused-fields n (p .place) → Fills S program text t r u
+  refusal-fills : {S : Stage Report} (n : ℕ) (p : Part) → S (stop n p) → (r : OutputRead) → r ≡ refused-fields n (p .place) → FillsStage S program text t r u
   refusal-fills n p h r q = record { given = record { outcome = stop n p; stage = h; so = q }; filled = λ line fs e. absurd (on-stop (inv e)) }
 
   -- what has been said is a report, and where it has facts the tables hold them
   module _ (at : ℕ) (said : OutputRead) (x : Report) (e : said ≡ report-fields x) (held : (line : Place) (fs : Program true) → x ≡ facts line fs → FactsHeld program text line fs t (said .count) u) (r : OutputRead) where
-    closing-fills : Closes text at said r → Fills (Closing x text at) program text t r u
+    closing-fills : Closes text at said r → FillsStage (Closing x text at) program text t r u
     closing-fills (Closes.refuses n q) = absurd (n (ap (λ (y : OutputRead). y .code) e ∙ report-code x))
     closing-fills (Closes.closes o q) = record { given = record { outcome = on x; stage = Closing.closes o; so = q ∙ e }; filled = λ line fs y. rw q (held line fs (on-inj y)) }
     closing-fills (Closes.stray z line o q) = refusal-fills 2 (in-text output line) (Closing.stray line o) r q
 
-  pub closing-none : (at : ℕ) (said : OutputRead) → said ≡ report-fields claim-none → (r : OutputRead) → Closes text at said r → Fills (Closing claim-none text at) program text t r u
+  pub closing-none : (at : ℕ) (said : OutputRead) → said ≡ report-fields claim-none → (r : OutputRead) → Closes text at said r → FillsStage (Closing claim-none text at) program text t r u
   closing-none at said e r = closing-fills at said claim-none e (λ line fs y. absurd (none-claims line fs y)) r
 
-  pub closing-unknown : (at : ℕ) (said : OutputRead) → said ≡ report-fields claim-unknown → (r : OutputRead) → Closes text at said r → Fills (Closing claim-unknown text at) program text t r u
+  pub closing-unknown : (at : ℕ) (said : OutputRead) → said ≡ report-fields claim-unknown → (r : OutputRead) → Closes text at said r → FillsStage (Closing claim-unknown text at) program text t r u
   closing-unknown at said e r = closing-fills at said claim-unknown e (λ line fs y. absurd (unknown-claims line fs y)) r
 
   -- ---- behind ANSWER
 
-  module _ (line : Place) (ask : Fillable program text line (t .names) (t .facts) (t .predicates) (t .starts) (t .lengths)) (f : FactsRead) (g : FillsLine program text line (t .names) (t .facts) (t .predicates) (t .starts) (t .lengths) f (u .names) (u .facts) (u .predicates) (u .starts) (u .lengths)) where
+  module _ (line : Place) (ask : Fillable program text line (t .names) (t .facts) (t .starts) (t .lengths)) (f : FactsRead) (g : FillsLine program text line (t .names) (t .facts) (t .predicates) (t .starts) (t .lengths) f (u .names) (u .facts) (u .predicates) (u .starts) (u .lengths)) where
     abbrev Line-read : Type 0
     Line-read = FillsLine program text line (t .names) (t .facts) (t .predicates) (t .starts) (t .lengths) f (u .names) (u .facts) (u .predicates) (u .starts) (u .lengths)
 
@@ -107,7 +108,7 @@ module _ (program text : Bytes) (t u : Tables) where
         go (refuses c n h) = omega (arith, refused-inside true (part text line) (f .code) (f .place) h, line-length, ask .inside, ask .room .in-order .output-size)
 
     -- a refusal of the line stays, whatever stands behind it
-    answer-refused : (next : ℕ) → (f .code ≡ 0 → ⊥) → ReadAs true (part text line) (refused-tree (f .code) (f .place)) → (said : OutputRead) → said ≡ refused-fields (f .code) (on-line line (f .place)) → (r : OutputRead) → Closes text next said r → Fills (Behind text Answer line next) program text t r u
+    answer-refused : (next : ℕ) → (f .code ≡ 0 → ⊥) → ReadAs true (part text line) (refused-tree (f .code) (f .place)) → (said : OutputRead) → said ≡ refused-fields (f .code) (on-line line (f .place)) → (r : OutputRead) → Closes text next said r → FillsStage (Behind text Answer line next) program text t r u
     answer-refused next n h said e r k = refusal-fills (f .code) (in-text output (on-line line (f .place))) (stops _ _ (fault (f .code) (f .place) h)) r (stays k ∙ e)
       where
         stays : Closes text next said r → r ≡ said
@@ -115,13 +116,13 @@ module _ (program text : Bytes) (t u : Tables) where
         stays (Closes.closes o q) = q
         stays (Closes.stray z l o q) = absurd (n (inv (ap (λ (y : OutputRead). y .code) e) ∙ z))
 
-    pub answer-closed : (next : ℕ) (said : OutputRead) → said ≡ line-fields line f → (r : OutputRead) → Closes text next said r → Fills (Behind text Answer line next) program text t r u
+    pub answer-closed : (next : ℕ) (said : OutputRead) → said ≡ line-fields line f → (r : OutputRead) → Closes text next said r → FillsStage (Behind text Answer line next) program text t r u
     answer-closed next said q r k = go g
       where
         held : (fs : Program true) → said ≡ reported-fields Answer (f .count) → FactsHeld program text line fs t (f .count) u → (l : Place) (gs : Program true) → facts line fs ≡ facts l gs → FactsHeld program text l gs t (said .count) u
         held fs e w l gs y = let a : line ≡ l = cc in let b : fs ≡ gs = cc in let n : said .count ≡ f .count = ap (λ (x : OutputRead). x .count) e in rw (← a, ← b, n) w
 
-        go : Line-read → Fills (Behind text Answer line next) program text t r u
+        go : Line-read → FillsStage (Behind text Answer line next) program text t r u
         go (whole c p fs h w) =
             let e : said ≡ reported-fields Answer (f .count) = q ∙ line-facts line f c in
             let d = closing-fills next said (facts line fs) (e ∙ ap (reported-fields Answer) (w .size)) (held fs e w) r k in
@@ -149,13 +150,17 @@ shape text (stray line behind f n) = is-refused refl
 shape text (says line behind f word s) = said-shape text word behind
 
 -- the facts line lies inside the output, which is within its size
-pub line-fillable : (program text : Bytes) (t : Tables) → (most-text < length text → ⊥) → (p : ReportRead) → Reported text p → Lent program text t → Fillable program text (p .facts) (t .names) (t .facts) (t .predicates) (t .starts) (t .lengths)
+pub line-fillable : (program text : Bytes) (t : OutputTables) → (most-text < length text → ⊥) → (p : ReportRead) → Reported text p → Lent program text t → Fillable program text (p .facts) (t .names) (t .facts) (t .starts) (t .lengths)
 line-fillable program text t size p g lent =
     let i = reported-inside text g in
     let within : length text ≤ most-text = omega arith in
-    record { inside = omega arith; room = room-less program text (p .facts .len) (lent .room within) (omega arith); facts-long = lent .facts-long; predicates-long = lent .predicates-long; starts-long = lent .starts-long; lengths-long = lent .lengths-long }
+    record { inside = omega arith; room = room-less program text (p .facts .len) (lent .room within) (omega arith); facts-long = lent .facts-long; starts-long = lent .starts-long; lengths-long = lent .lengths-long }
 
-module _ (program text : Bytes) (t u : Tables) where
+-- so many rows stand in a table that has room for all facts
+pub rows-within : (n before left : ℕ) → n ≤ most-facts → 9_216 ≤ before → left ≡ before → n * fact-stride ≤ left
+rows-within n before left few long same = omega arith
+
+module _ (program text : Bytes) (t u : OutputTables) where
   pub too-long : most-text < length text → (r : OutputRead) → r ≡ refused-fields 1 nowhere → FillsOutput program text t r u
   too-long h r q = refusal-fills program text t u 1 (start-of output) (stops 1 (start-of output) (given h)) r q
 
@@ -170,14 +175,14 @@ module _ (program text : Bytes) (t u : Tables) where
             refusal-fills program text t u 2 part (goes tt (stop 2 part) (passed size) (stops 2 part (Opening.refuses (p .place) (subst (Reported text) s g)))) r (q ∙ ap (λ (n : ℕ). refused-fields n (p .place)) two)
         go (is-found s) = absurd (e (ap (λ (x : ReportRead). x .code) s))
 
-    pub goes-behind : p .code ≡ 0 → (word : Word) → p .word ≡ word → (r : OutputRead) → Fills (Behind text word (p .facts) (p .next)) program text t r u → FillsOutput program text t r u
+    pub goes-behind : p .code ≡ 0 → (word : Word) → p .word ≡ word → (r : OutputRead) → FillsStage (Behind text word (p .facts) (p .next)) program text t r u → FillsOutput program text t r u
     goes-behind e word w r d = go (shape text g)
       where
         go : Shape p → FillsOutput program text t r u
         go (is-refused s) = absurd (let z : p .code ≡ 2 = ap (λ (x : ReportRead). x .code) s in omega arith)
         go (is-found s) =
             let o : Opened = record { word = p .word; line = p .facts; next = p .next } in
-            let b : Fills (Behind text (p .word) (p .facts) (p .next)) program text t r u = subst (λ (v : Word). Fills (Behind text v (p .facts) (p .next)) program text t r u) (inv w) d in
+            let b : FillsStage (Behind text (p .word) (p .facts) (p .next)) program text t r u = subst (λ (v : Word). FillsStage (Behind text v (p .facts) (p .next)) program text t r u) (inv w) d in
             record {
               given = record {
                 outcome = b .given .outcome;

@@ -26,7 +26,7 @@ use Rattle.stages.specs.Stage.{Outcome, on, stop, Refuse, stops, goes, given, p
 use Rattle.output.specs.declared.OutputRead.{OutputRead}
 use Rattle.output.specs.Output.{Report, facts, claim-none, claim-unknown, Opened, Opening, refuses, opens, Facts, Closing, closes, stray, Behind, OutputStage}
 use Rattle.output.specs.Answers.{fields, ReadsOutput}
-use Rattle.output.specs.Tables.{Tables, FactsHeld, FillsOutput}
+use Rattle.output.specs.Tables.{OutputTables, FactsHeld, FillsOutput}
 
 -- ---- a refusal: its number is one, and its part is a part of the output
 
@@ -128,13 +128,13 @@ module _ (text : Bytes) (r : OutputRead) (g : ReadsOutput text r) where
       go (stop m p) s e = absurd (let k = refusal text s .number in let q : r .code ≡ m = ap (λ (x : OutputRead). x .code) e in omega arith)
 
 -- ANSWER: the facts of its line, which the tables hold
-pub record Answering (program text : Bytes) (n : ℕ) (t u : Tables) : Type 0 where
+pub record Answering (program text : Bytes) (n : ℕ) (t u : OutputTables) : Type 0 where
   pub line : Place
   pub tree-of : Program true
   pub stage : OutputStage text (on (facts line tree-of))
   pub held : FactsHeld program text line tree-of t n u
 
-pub output-answers : (program text : Bytes) (t : Tables) (r : OutputRead) (u : Tables) → FillsOutput program text t r u → r .code ≡ 0 → r .word ≡ Answer → Answering program text (r .count) t u
+pub output-answers : (program text : Bytes) (t : OutputTables) (r : OutputRead) (u : OutputTables) → FillsOutput program text t r u → r .code ≡ 0 → r .word ≡ Answer → Answering program text (r .count) t u
 output-answers program text t r u g z w = go (g .given .outcome) refl
   where
     go : (o : Outcome Report) → g .given .outcome ≡ o → Answering program text (r .count) t u

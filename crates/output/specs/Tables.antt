@@ -16,18 +16,18 @@ use Rattle.output.specs.Output.{Report, OutputStage}
 use Rattle.output.specs.Answers.{GivenBy}
 
 -- names; the facts' rows; their predicates; where each starts in the output, and how long it is
-pub record Tables : Type 0 where
+pub record OutputTables : Type 0 where
   pub names : List ℕ
   pub facts : List ℕ
   pub predicates : List ℕ
   pub starts : List ℕ
   pub lengths : List ℕ
 
-abbrev pub tables : (names facts predicates starts lengths : List ℕ) → Tables
+abbrev pub tables : (names facts predicates starts lengths : List ℕ) → OutputTables
 tables names facts predicates starts lengths = record { names = names; facts = facts; predicates = predicates; starts = starts; lengths = lengths }
 
 -- there is room for all facts of a line; and for as many names as the output has bytes, where it is within its size
-pub record Lent (program output : Bytes) (t : Tables) : Type 0 where
+pub record Lent (program output : Bytes) (t : OutputTables) : Type 0 where
   pub room : length output ≤ most-text → Room program output (t .names) (length output)
   pub facts-long : 9_216 ≤ length (t .facts)
   pub predicates-long : 1_024 ≤ length (t .predicates)
@@ -35,15 +35,15 @@ pub record Lent (program output : Bytes) (t : Tables) : Type 0 where
   pub lengths-long : 1_024 ≤ length (t .lengths)
 
 -- the tables after hold these facts of a line, n of them
-abbrev pub FactsHeld : (program output : Bytes) → Place → Program true → Tables → ℕ → Tables → Type 0
+abbrev pub FactsHeld : (program output : Bytes) → Place → Program true → OutputTables → ℕ → OutputTables → Type 0
 FactsHeld program output line fs t n u =
     Filled program output line fs (t .names) (t .facts) (t .predicates) (t .starts) (t .lengths) n (u .names) (u .facts) (u .predicates) (u .starts) (u .lengths)
 
 -- the answer is that of an outcome which the stage may have; where that is a line with its facts, the tables hold them
-pub record Fills (S : Stage Report) (program output : Bytes) (t : Tables) (r : OutputRead) (u : Tables) : Type 0 where
+pub record FillsStage (S : Stage Report) (program output : Bytes) (t : OutputTables) (r : OutputRead) (u : OutputTables) : Type 0 where
   pub given : GivenBy S r
   pub filled : (line : Place) (fs : Program true) → given .outcome ≡ on (Report.facts line fs) → FactsHeld program output line fs t (r .count) u
 
 -- what `read_output` promises
-abbrev pub FillsOutput : (program output : Bytes) → Tables → OutputRead → Tables → Type 0
-FillsOutput program output t r u = Fills (OutputStage output) program output t r u
+abbrev pub FillsOutput : (program output : Bytes) → OutputTables → OutputRead → OutputTables → Type 0
+FillsOutput program output t r u = FillsStage (OutputStage output) program output t r u

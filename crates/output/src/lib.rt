@@ -2,12 +2,11 @@
 ghost use mathlib.Core.Path.{_≡_};
 ghost use Prim.Native.Nat.{_+_, _≤_};
 ghost use Rattle.tokens.specs.Sizes.{most-text};
-ghost use Rattle.report.specs.declared.word.Word.the-variants.{Answer};
-ghost use Rattle.factline.specs.Lines.{Fillable};
-ghost use Rattle.output.specs.Output.{on-line, Behind};
+ghost use Rattle.output.specs.Output.{on-line};
 ghost use Rattle.output.specs.Answers.{refused, reported, line-fields, Closes};
-ghost use Rattle.output.specs.Tables.{tables, Lent, Fills, FillsOutput};
+ghost use Rattle.output.specs.Tables.{tables, Lent, FillsOutput};
 use factline::line::FactsRead;
+use factline::line::put_predicates;
 use factline::line::read_line;
 use report::around::Found;
 use report::around::out_of_place;
@@ -90,34 +89,6 @@ fn closed(output: &[u8], at: usize, said: OutputRead) -> OutputRead
     }
 }
 
-// Behind ANSWER: the facts line, whose facts go into the tables, and from `next` on the lines behind it.
-fn answered<'a>(
-    program: &'a [u8],
-    output: &'a [u8],
-    line: Place,
-    next: usize,
-    names: &mut [u32],
-    facts: &mut [u64],
-    predicates: &mut [u64],
-    starts: &mut [u32],
-    lengths: &mut [u32],
-) -> OutputRead
-    requires { ⌜ Fillable (now program) (now output) line (now names) (now facts) (now predicates) (now starts) (now lengths) ⌝ }
-    ensures { λ r. ⌜ Fills (Behind (now (output .entry)) Answer line next) (now (program .entry)) (now (output .entry)) (tables (now (names .entry)) (now (facts .entry)) (now (predicates .entry)) (now (starts .entry)) (now (lengths .entry))) r (tables (now (names .exit)) (now (facts .exit)) (now (predicates .exit)) (now (starts .exit)) (now (lengths .exit))) ⌝ }
-{
-    let read = read_line(
-        program,
-        output,
-        line,
-        names,
-        facts,
-        predicates,
-        starts,
-        lengths,
-    );
-    closed(output, next, of_line(line, read))
-}
-
 // The whole output: 1; the leftmost of 2, 3 and 4; or the report, and behind ANSWER the facts line and its facts, which go into
 // the tables: their rows, with their names numbered behind the program's; their predicates; where they start, and how long they are.
 pub fn read_output<'a>(
@@ -144,17 +115,11 @@ pub fn read_output<'a>(
     let line = report.facts;
     let next = report.next;
     match word {
-        Word::Answer => answered(
-            program,
-            output,
-            line,
-            next,
-            names,
-            facts,
-            predicates,
-            starts,
-            lengths,
-        ),
+        Word::Answer => {
+            let read = read_line(program, output, line, names, facts, starts, lengths);
+            put_predicates(&*facts, predicates, read.count);
+            closed(output, next, of_line(line, read))
+        }
         Word::Inconsistent => closed(output, next, reported(Word::Inconsistent, 0)),
         Word::Unknown => closed(output, next, reported(Word::Unknown, 0)),
     }

@@ -16,7 +16,7 @@ use Rattle.codes.specs.Domains.{codes, code-in-range}
 use Rattle.tables.specs.Rows.{from, rule-column, literal-at, equation-at, equation-places, rule-at}
 use Rattle.tables.specs.WellFormed.{BodyRow, RuleRow}
 use Rattle.derived_set.specs.Members.{bit}
-use Rattle.store.specs.Store.{store-size, most-rows, literals-in, rules-in}
+use Rattle.store.specs.Store.{store-size, literal-room, literals-in, rules-in}
 use Rattle.store.proofs.Parts.{literals-long}
 use Rattle.matching.specs.Known.{values-in}
 use Rattle.matching.proofs.Masks.{kept-all}
@@ -35,7 +35,7 @@ binding store r row = record { few = row .few-equations; row = row .equation }
 pub body-rows : (store : List ℕ) (r : ℕ) → RuleRow (rules-in store) (literals-in store) r → (first size : ℕ) → first ≡ rule-column (rules-in store) r 1 → size ≡ rule-column (rules-in store) r 2 → (l : ℕ) → first ≤ l → l < first + size → BodyRow (literals-in store) l
 body-rows store r row first size e f l p q = row .body l (rw e at p) (rw (e, f) at q)
 
-pub body-end : (store : List ℕ) (r : ℕ) → length store ≡ store-size → RuleRow (rules-in store) (literals-in store) r → (first size : ℕ) → first ≡ rule-column (rules-in store) r 1 → size ≡ rule-column (rules-in store) r 2 → first + size ≤ most-rows
+pub body-end : (store : List ℕ) (r : ℕ) → length store ≡ store-size → RuleRow (rules-in store) (literals-in store) r → (first size : ℕ) → first ≡ rule-column (rules-in store) r 1 → size ≡ rule-column (rules-in store) r 2 → first + size ≤ literal-room
 body-end store r long row first size e f = omega (arith, row .within, literals-long store long, e, f)
 
 module _ (store : List ℕ) (r bound : ℕ) (values : List ℕ) (row : RuleRow (rules-in store) (literals-in store) r) where

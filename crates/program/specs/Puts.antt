@@ -24,7 +24,7 @@ use Rattle.tables.specs.Rows.{no-literal, rule-column, equation-places, positiv
 use Rattle.tables.specs.WellFormed.{RuleRow}
 use Rattle.tables.specs.Stored.{Kept}
 use Rattle.rows.specs.Growth.{Grows}
-use Rattle.atoms.specs.declared.cursor.Cursor.{Cursor}
+use Rattle.terms.specs.declared.cursor.Cursor.{Cursor}
 use Rattle.clauses.specs.Clauses.{ReadyRule}
 use Rattle.rulesafety.specs.Unbound.{no-unbound, FirstUnbound}
 use Rattle.program.specs.declared.put.RuleStart.{RuleStart}

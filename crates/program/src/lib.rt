@@ -80,7 +80,7 @@ fn read_rules<'a>(
     requires { ⌜ (length (now program) ≤ most-text) × Fillable (now program) (now output) (now names) (now rules) (now literals) ⌝ }
     ensures { λ r. ⌜ ReadsProgram (now (program .entry)) (now (output .entry)) (now (names .entry)) (now (rules .entry)) (now (literals .entry)) r (now (names .exit)) (now (rules .exit)) (now (literals .exit)) ⌝ }
 {
-    let mut variables = [0u32; MOST_VARIABLES * PLACE];
+    let mut places = [0u32; MOST_VARIABLES * PLACE];
     let mut unbound = NO_UNBOUND;
     let mut at = 0;
     let mut count = 0;
@@ -90,26 +90,16 @@ fn read_rules<'a>(
             number: count,
             over: MOST_RULES <= count,
         };
-        let read = put_rule(
-            program,
-            output,
-            names,
-            &mut variables,
-            rules,
-            literals,
-            start,
-        );
-        let progress = read.progress;
-        let place = progress.place;
-        if progress.code != 0 {
-            return refused(progress.code, place);
+        let read = put_rule(program, output, names, &mut places, rules, literals, start);
+        if read.progress.code != 0 {
+            return refused(read.progress.code, read.progress.place);
         }
         let here = read.unbound;
         unbound = earlier(unbound, here);
         if read.ended {
             return finished(unbound, count);
         }
-        at = progress.next;
+        at = read.progress.next;
         count += 1;
     }
 }

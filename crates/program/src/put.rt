@@ -1,7 +1,6 @@
 // A rule of a program, read into the tables: its literals' rows and its own, and the first of its variables that is not bound.
 ghost use mathlib.Core.Path.{_≡_};
 ghost use Rattle.program.specs.Puts.{Puttable, PutsRule, refusedPut};
-use atoms::cursor::Cursor;
 use clauses::clause::rule_at;
 use rulesafety::rule_row::put_rule_row;
 use rulesafety::unbound::NO_UNBOUND;
@@ -9,6 +8,7 @@ use rulesafety::unbound::Unbound;
 use rulesafety::unbound::first_unbound;
 use syntax::token::Progress;
 use tables::ROWS;
+use terms::cursor::Cursor;
 
 // Where a rule starts in the program, its number, and whether it is one too many.
 pub struct RuleStart {
@@ -57,16 +57,16 @@ pub fn put_rule<'a>(
         met: 0,
     };
     let read = rule_at(program, output, names, variables, literals, cursor, number);
-    let progress = read.progress;
-    if progress.code != 0 {
-        return none_put(progress, false);
+    if read.progress.code != 0 {
+        return none_put(read.progress, false);
     }
     if read.ended {
-        return none_put(progress, true);
+        return none_put(read.progress, true);
     }
     let first = number * ROWS + 1;
     let bound = put_rule_row(rules, literals, number, read.head, first, read.count);
     let unbound = first_unbound(bound, variables, read.met);
+    let progress = read.progress;
     RulePut {
         progress,
         ended: false,

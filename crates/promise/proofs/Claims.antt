@@ -14,7 +14,7 @@ use Rattle.stages.specs.Stage.{Outcome, on, stop, goes, passed}
 use Rattle.stages.proofs.Unique.{on-inj}
 use Rattle.output.specs.Output.{Report, facts, claim-none, claim-unknown}
 use Rattle.promise.specs.Answer.{Answer, refused, accepted, unsatisfied, smaller, claimed-none, claimed-unknown, Result, says, result}
-use Rattle.promise.specs.Judged.{Judged, judged}
+use Rattle.promise.specs.Judged.{VerdictStage, judged}
 use Rattle.promise.specs.Answered.{Reported, code-of, Check, Answered}
 use Rattle.promise.specs.Refusals.{Read}
 use Rattle.promise.proofs.Unique.{check-one}
@@ -46,7 +46,7 @@ module _ (the-program the-output : Bytes) (code : ℕ) (places : List ℕ) where
     says-none (meant.unsatisfied r ps) = refl
     says-none (meant.smaller bs) = refl
 
-    judged-none : (r : Result) (o : Outcome Result) → o ≡ on r → Judged P I places o → number (r .answer) ≡ 0
+    judged-none : (r : Result) (o : Outcome Result) → o ≡ on r → VerdictStage P I places o → number (r .answer) ≡ 0
     judged-none r o e (judged v h) = let z : says places v ≡ r = on-inj e in rw (← z) (says-none v)
 
     says-writes : (v : Verdict) → ((n k : ℕ) → ¬ (says places v .answer ≡ accepted n k)) → says places v .places ≡ places
@@ -55,7 +55,7 @@ module _ (the-program the-output : Bytes) (code : ℕ) (places : List ℕ) where
     says-writes (meant.unsatisfied r ps) f = refl
     says-writes (meant.smaller bs) f = refl
 
-    judged-writes : (r : Result) (o : Outcome Result) → o ≡ on r → Judged P I places o → ((n k : ℕ) → ¬ (r .answer ≡ accepted n k)) → r .places ≡ places
+    judged-writes : (r : Result) (o : Outcome Result) → o ≡ on r → VerdictStage P I places o → ((n k : ℕ) → ¬ (r .answer ≡ accepted n k)) → r .places ≡ places
     judged-writes r o e (judged v h) f = let z : says places v ≡ r = on-inj e in rw (← z) (says-writes v (λ n k g. f n k (rw (← z) g)))
 
   -- ---- what is only claimed

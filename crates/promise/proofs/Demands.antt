@@ -23,7 +23,7 @@ use Rattle.program.proofs.Unique.{program-one}
 use Rattle.output.specs.Output.{facts}
 use Rattle.output.proofs.Unique.{output-one}
 use Rattle.promise.specs.Answer.{Answer, accepted, unsatisfied, smaller, Result, positions, says, result}
-use Rattle.promise.specs.Judged.{Judged, judged}
+use Rattle.promise.specs.Judged.{VerdictStage, judged}
 use Rattle.promise.specs.Answered.{Answered}
 use Rattle.promise.specs.Ready.{Ready}
 
@@ -34,7 +34,7 @@ pub record Shown (the-verdict : Verdict → Type 0) (places : List ℕ) (a : Ans
   pub so : record { answer = a; places = left } ≡ says places verdict
 
 module _ (the-program the-output : Bytes) (code : ℕ) (places : List ℕ) (c : Program false) (line : Place) (fs : Program true) (ready : Ready the-program the-output code places c line fs) where
-  judged-shown : (o : Outcome Result) → Judged (rules-for c) (facts-for fs) places o → (a : Answer) (left : List ℕ) → record { answer = a; places = left } ≡ result places o → Shown (Means values (rules-for c) (facts-for fs)) places a left
+  judged-shown : (o : Outcome Result) → VerdictStage (rules-for c) (facts-for fs) places o → (a : Answer) (left : List ℕ) → record { answer = a; places = left } ≡ result places o → Shown (Means values (rules-for c) (facts-for fs)) places a left
   unfolding result
   judged-shown o (judged v h) a left e = record { verdict = v; means = h; so = e }
 

@@ -27,7 +27,7 @@ use Rattle.program.proofs.Taken.{refused-between}
 use Rattle.output.specs.Output.{Report, facts, claim-none, claim-unknown, Opening, refuses, Closing, stray, Behind, OutputStage}
 use Rattle.promise.specs.Answer.{Answer, refused, accepted, unsatisfied, smaller, claimed-none, claimed-unknown, Result, says, result}
 use Rattle.promise.specs.Cases.{Clash, repeats, opposes, Leaves, leaves}
-use Rattle.promise.specs.Judged.{Judged, judged}
+use Rattle.promise.specs.Judged.{VerdictStage, judged}
 use Rattle.promise.specs.Answered.{Candidate, Reported, code-of, Check, Answered}
 use Rattle.promise.specs.Refusals.{Read, Case, of-program, of-output, of-code, of-facts, of-room, of-range}
 use Rattle.promise.proofs.Unique.{check-one}
@@ -85,7 +85,7 @@ module _ (the-program the-output : Bytes) (code : ℕ) (places : List ℕ) where
   abbrev Here : ℕ → Part → Type 0
   Here = Case the-program the-output code places
 
-  judged-on : (P : List (Rule Value)) (I : List (Fact Value)) (o : Outcome Result) → Judged P I places o → (r : Result) × (on r ≡ o)
+  judged-on : (P : List (Rule Value)) (I : List (Fact Value)) (o : Outcome Result) → VerdictStage P I places o → (r : Result) × (on r ≡ o)
   judged-on P I o (judged v h) = (says places v, refl)
 
   candidate-case : (c : Program false) (line : Place) (fs : Program true) → Read the-program the-output code c (facts line fs) → (n : ℕ) (p : Part) → Candidate the-program the-output places c line fs (stop n p) → Here n p
@@ -127,7 +127,7 @@ module _ (the-program the-output : Bytes) (code : ℕ) (places : List ℕ) where
   says-none (meant.unsatisfied r ps) = refl
   says-none (meant.smaller bs) = refl
 
-  judged-none : (P : List (Rule Value)) (I : List (Fact Value)) (r : Result) (o : Outcome Result) → o ≡ on r → Judged P I places o → is-refusal (r .answer) ≡ false
+  judged-none : (P : List (Rule Value)) (I : List (Fact Value)) (r : Result) (o : Outcome Result) → o ≡ on r → VerdictStage P I places o → is-refusal (r .answer) ≡ false
   judged-none P I r o e (judged v h) = let z : says places v ≡ r = on-inj e in rw (← z) (says-none v)
 
   reported-none : (c : Program false) (report : Report) (r : Result) → Reported the-program the-output places c report (on r) → is-refusal (r .answer) ≡ false

@@ -11,14 +11,14 @@ use Rattle.promise.specs.Answer.{Result, says}
 use Rattle.promise.specs.Cases.{Leaves}
 
 -- a verdict that means what it says of the candidate
-pub data Judged (P : List (Rule Value)) (I : List (Fact Value)) (places : List ℕ) : Outcome Result → Type 0 where
-  judged : (v : Verdict) → Means values P I v → Judged P I places (on (says places v))
+pub data VerdictStage (P : List (Rule Value)) (I : List (Fact Value)) (places : List ℕ) : Outcome Result → Type 0 where
+  judged : (v : Verdict) → Means values P I v → VerdictStage P I places (on (says places v))
 
 -- 8, with the rule's part; else the verdict
 abbrev pub Settled : (ℕ → Part) → List (Rule Value) → List (Fact Value) → List ℕ → Stage Result
 Settled rule-part P I places =
     First rule-part (Leaves P I) ⟫ λ _.
-    Judged P I places
+    VerdictStage P I places
 
 -- the outcome of the meaning (`settled-is`): rules are numbered from 1 there
 unfoldable pub settles : (ℕ → Part) → List ℕ → meant.Outcome → Outcome Result

@@ -20,7 +20,7 @@ use Rattle.meaning.specs.Values.{same-number, same-bytes, same-value, Value, va
 use Rattle.meaning.specs.Safety.{in-term, in-atom, positives, in-positives, term-bound, side-bound, when, else, gain-left, gain, next-gain, with, scan, equations, bound-after, bound}
 use Rattle.meaning.specs.Instances.{same-sign, same-predicate, same-arguments, same-fact}
 use Rattle.meaning.specs.Matcher.{then}
-use Rattle.meaning.specs.Outcomes.{Answers}
+use Rattle.meaning.specs.Outcomes.{MeansOutcome}
 use Rattle.meaning.specs.Ascii.{last-bytes, ascii}
 use Rattle.meaning.specs.Examples as meant
 use Rattle.meaning.proofs.Examples as settled
@@ -77,7 +77,7 @@ say = (refl, (refl, (refl, (refl, (refl, (refl, (refl, (refl, (refl, (refl, (ref
 -- ---- so each of the twelve holds
 
 abbrev Settled : meant.Example → Type 0
-Settled m = Answers values in-range (m .program) (m .candidate) (m .outcome)
+Settled m = MeansOutcome values in-range (m .program) (m .candidate) (m .outcome)
 
 one-holds : (e : Example) (m : meant.Example) → from-texts e ≡ as-meant m → e .facts ≡ length (m .candidate) → Says e m → Settled m → Holds e
 one-holds e m taken facts says answers =

@@ -18,7 +18,7 @@ use Rattle.meaning.specs.Rules.{Bytes, Fact, Rule}
 use Rattle.meaning.specs.Values.{Value, values, in-range}
 use Rattle.meaning.specs.Safety.{when}
 use Rattle.meaning.specs.Matcher.{then}
-use Rattle.meaning.specs.Outcomes.{Answers}
+use Rattle.meaning.specs.Outcomes.{MeansOutcome}
 use Rattle.meaning.specs.Outcomes as meant
 use Rattle.meaning.proofs.Booleans.{and-left, and-right, when-some, then-some, none-some, some-inj}
 use Rattle.grammar.specs.Trees.{Program}
@@ -170,7 +170,7 @@ module _ (the-program the-output : Bytes) (P : List (Rule Value)) (I : List (Fac
   behind-both o h = goes (p .program) o (p .stage) (goes (facts (c .line) (c .candidate)) o (c .stage) (goes tt o (passed (λ d. d refl)) h))
 
   -- with room, what the outcome of the meaning says
-  pub answered-with-room : (o : meant.Outcome) → Answers values in-range P I o → length I ≤ length places → (a : Answer) (left : List ℕ) → record { answer = a; places = left } ≡ result places (settles (rule-part the-program) places o) → Answered the-program the-output 10 places a left
+  pub answered-with-room : (o : meant.Outcome) → MeansOutcome values in-range P I o → length I ≤ length places → (a : Answer) (left : List ℕ) → record { answer = a; places = left } ≡ result places (settles (rule-part the-program) places o) → Answered the-program the-output 10 places a left
   answered-with-room o h room a left e =
       let settled = settled-is (rule-part the-program) (rules-for (p .program)) (facts-for (c .candidate)) places o (rw (p .rules, c .facts-are) h) in
       record {

@@ -6,7 +6,10 @@ use Rattle.candidate.proofs.put_facts.Statement.{statement}
 use Rattle.candidate.proofs.put_facts.Tie as tie
 
 fault-of-requires : tie.Need-fault-of-requires
-fault-of-requires c κs = λ z. let here = c .before .before .fill-facts .ensures .clash [] .here z .0 in (omega (arith, c .before .before .before .before .before .before .before .before .before .pre .1), omega (arith, c .before .before .before .before .before .before .before .before .before .pre .2))
+fault-of-requires c κs =
+    let fill-facts = c .before .before in
+    let start = fill-facts .before .before .before .before .before .before .before in
+    λ z. let here = fill-facts .fill-facts .ensures .clash [] .here z .0 in (omega (arith, start .pre .1), omega (arith, start .pre .2))
 
 returns : tie.Need-returns
 returns c = record { clash = c .before .before .before .fill-facts .result; filled = c .before .before .before .fill-facts .ensures; numbered = c .fault-of .ensures .0; placed = c .fault-of .ensures .1 }

@@ -11,7 +11,10 @@ returns-2 : tie.Need-returns-2
 returns-2 c = λ line P I s clash of placed. by-room _ _ _ _ _ _ clash of P I s line _ (c .before .before .before .if1 .left) (c .before .if2 .taken) _ (c .refused2 .ensures)
 
 settled-requires : tie.Need-settled-requires
-settled-requires c κs = settling _ _ _ _ _ _ _ (c .before .before .before .before .before .before .before .before .before .before .before .pre) (c .before .before .before .if1 .left) (c .before .if2 .left)
+settled-requires c κs =
+    let if1 = c .before .before .before in
+    let start = if1 .before .before .before .before .before .before .before .before in
+    settling _ _ _ _ _ _ _ (start .pre) (if1 .if1 .left) (c .before .if2 .left)
 
 returns-3 : tie.Need-returns-3
 returns-3 c = λ line P I s clash of placed. by-stages _ _ _ _ _ _ clash of P I s line _ (c .before .before .before .before .before .before .if1 .left) (c .before .before .before .before .if2 .left) _ _ (c .before .before .settled .ensures P I s)

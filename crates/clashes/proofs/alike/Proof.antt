@@ -7,13 +7,23 @@ use Rattle.clashes.proofs.alike.Statement.{statement}
 use Rattle.clashes.proofs.alike.Tie as tie
 
 returns : tie.Need-returns
-returns c = let a = c .before .before .before .before .before .args in λ names. sym (alike-not (a .facts .now) _ (a .opposed) (a .j) (a .k) (c .before .before .before .before .before .pre .1) (c .before .before .before .before .before .pre .2) (c .before .before .before .before .before .pre .3) names (sym (c .before .related .ensures) ∙ not-true _ (c .if1 .taken)))
+returns c =
+    let start = c .before .before .before .before .before in
+    let a = start .args in λ names. sym (alike-not (a .facts .now) _ (a .opposed) (a .j) (a .k) (start .pre .1) (start .pre .2) (start .pre .3) names (sym (c .before .related .ensures) ∙ not-true _ (c .if1 .taken)))
 
 same-values-requires : tie.Need-same-values-requires
-same-values-requires c κs = let a = c .before .before .before .before .before .before .before .args in parts-fit (a .facts .now) _ (a .opposed) (a .j) (a .k) (c .before .before .before .before .before .before .before .pre .1) (c .before .before .before .before .before .before .before .pre .2) (c .before .before .before .before .before .before .before .pre .3) (sym (c .before .before .before .related .ensures) ∙ not-false _ (c .before .before .if1 .left))
+same-values-requires c κs =
+    let if1 = c .before .before in
+    let related = if1 .before in
+    let start = related .before .before .before .before in
+    let a = start .args in parts-fit (a .facts .now) _ (a .opposed) (a .j) (a .k) (start .pre .1) (start .pre .2) (start .pre .3) (sym (related .related .ensures) ∙ not-false _ (if1 .if1 .left))
 
 returns-2 : tie.Need-returns-2
-returns-2 c = let a = c .before .before .before .before .before .before .before .before .args in λ names. alike-arguments (a .facts .now) _ (a .opposed) (a .j) (a .k) (c .before .before .before .before .before .before .before .before .pre .1) (c .before .before .before .before .before .before .before .before .pre .2) (c .before .before .before .before .before .before .before .before .pre .3) (sym (c .before .before .before .before .related .ensures) ∙ not-false _ (c .before .before .before .if1 .left)) names _ (c .same-values .ensures names)
+returns-2 c =
+    let if1 = c .before .before .before in
+    let related = if1 .before in
+    let start = related .before .before .before .before in
+    let a = start .args in λ names. alike-arguments (a .facts .now) _ (a .opposed) (a .j) (a .k) (start .pre .1) (start .pre .2) (start .pre .3) (sym (related .related .ensures) ∙ not-false _ (if1 .if1 .left)) names _ (c .same-values .ensures names)
 
 pub alike-spec : {M : Type 1} → statement M
 alike-spec =

@@ -27,7 +27,10 @@ returns : tie.Need-returns Inv-loop μ-loop
 returns c = λ names. record { before = c .before .before .before .loop .inv .1 names; here = λ n. (c .before .before .loop-test .taken, c .before .clash .ensures names); nowhere = λ e. absurd (c .if1 .taken e) }
 
 loop-again : tie.Need-loop-again Inv-loop μ-loop
-loop-again c = (omega arith, λ names. clear-more names (c .before .before .before .before .before .before .args .facts .now) (c .before .before .before .loop .fact) _ (c .if1 .left) (c .before .clash .ensures names) (c .before .before .before .loop .inv .1 names) _ (add-one (c .before .before .before .loop .fact)))
+loop-again c =
+    let loop = c .before .before .before in
+    let start = loop .before .before .before in
+    (omega arith, λ names. clear-more names (start .args .facts .now) (loop .loop .fact) _ (c .if1 .left) (c .before .clash .ensures names) (loop .loop .inv .1 names) _ (add-one (loop .loop .fact)))
 
 returns-2 : tie.Need-returns-2 Inv-loop μ-loop
 returns-2 c = λ names. record { before = c .before .loop .inv .1 names; here = λ n. absurd (n refl); nowhere = λ e. omega (arith, c .before .loop .inv .0, c .loop-test .left) }

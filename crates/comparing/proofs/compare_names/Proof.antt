@@ -15,10 +15,15 @@ returns-2 c = λ names k. let p = c .before .before .before .before .before .pre
 
 returns-3 : tie.Need-returns-3
 returns-3 c =
+    let if2 = c .before .before in
+    let stands-for-name2 = if2 .before in
+    let if1 = stands-for-name2 .before in
+    let stands-for-name = if1 .before in
+    let start = stands-for-name .before .before in
     λ names k.
-    let p = c .before .before .before .before .before .before .before .pre in
-    let one = sym (c .before .before .before .before .before .stands-for-name .ensures) ∙ not-false _ (c .before .before .before .before .if1 .left) in
-    let other = sym (c .before .before .before .stands-for-name2 .ensures) ∙ not-false _ (c .before .before .if2 .left) in
+    let p = start .pre in
+    let one = sym (stands-for-name .stands-for-name .ensures) ∙ not-false _ (if1 .if1 .left) in
+    let other = sym (stands-for-name2 .stands-for-name2 .ensures) ∙ not-false _ (if2 .if2 .left) in
     compared-by-code k (p .0) (p .1) (p .2) (p .3) one other (c .before .if3 .taken) (c .compare-numbers .ensures)
 
 rank-of-requires : tie.Need-rank-of-requires
@@ -29,11 +34,18 @@ rank-of-requires-2 c κs = stands-at _ _ (sym (c .before .before .before .stands
 
 returns-4 : tie.Need-returns-4
 returns-4 c =
+    let rank-of = c .before .before in
+    let if3 = rank-of .before in
+    let if2 = if3 .before in
+    let stands-for-name2 = if2 .before in
+    let if1 = stands-for-name2 .before in
+    let stands-for-name = if1 .before in
+    let start = stands-for-name .before .before in
     λ names k.
-    let p = c .before .before .before .before .before .before .before .before .before .pre in
-    let one = sym (c .before .before .before .before .before .before .before .stands-for-name .ensures) ∙ not-false _ (c .before .before .before .before .before .before .if1 .left) in
-    let other = sym (c .before .before .before .before .before .stands-for-name2 .ensures) ∙ not-false _ (c .before .before .before .before .if2 .left) in
-    compared-by-rank k (p .0) (p .1) (p .2) (p .3) one other (c .before .before .before .if3 .left) _ _ (c .before .before .rank-of .ensures) (c .before .rank-of2 .ensures) (c .compare-numbers2 .ensures)
+    let p = start .pre in
+    let one = sym (stands-for-name .stands-for-name .ensures) ∙ not-false _ (if1 .if1 .left) in
+    let other = sym (stands-for-name2 .stands-for-name2 .ensures) ∙ not-false _ (if2 .if2 .left) in
+    compared-by-rank k (p .0) (p .1) (p .2) (p .3) one other (if3 .if3 .left) _ _ (rank-of .rank-of .ensures) (c .before .rank-of2 .ensures) (c .compare-numbers2 .ensures)
 
 pub compare-names-spec : {M : Type 1} → statement M
 compare-names-spec =

@@ -18,11 +18,18 @@ returns c = λ names k. judged-over names _ _ _ _ _ (ap (λ (j : Judgement). j .
 
 verdict-requires : tie.Need-verdict-requires
 verdict-requires c κs =
-    let largest = rw (c .before .before .before .before .before .before .before .facts .ensures) at (c .before .before .before .before .before .before .largest .ensures) in
-    (record { tables = c .before .before .before .before .before .before .before .before .before .before .before .pre .0; modest = largest .0; largest = largest .1 }, refl, cut-wide (c .before .before .before .before .before .before .before .before .before .before .before .args .count) 1_024 (c .before .before .before .before .before .before .before .before .before .before .before .pre .0 .fact-table .few), c .before .before .before .before .before .before .before .before .before .before .before .pre .1)
+    let at-largest = c .before .before .before .before .before .before in
+    let facts = at-largest .before in
+    let start = facts .before .before .before .before in
+    let largest = rw (facts .facts .ensures) at (at-largest .largest .ensures) in
+    (record { tables = start .pre .0; modest = largest .0; largest = largest .1 }, refl, cut-wide (start .args .count) 1_024 (start .pre .0 .fact-table .few), start .pre .1)
 
 returns-2 : tie.Need-returns-2
-returns-2 c = λ names k. c .before .before .before .verdict .ensures names k (over-none _ _ _ _ _ _ (c .before .before .before .before .before .before .before .before .first-stop .ensures) names k refl (c .before .before .before .before .before .before .if1 .left))
+returns-2 c =
+    let verdict = c .before .before .before in
+    let if1 = verdict .before .before .before in
+    let first-stop = if1 .before .before in
+    λ names k. verdict .verdict .ensures names k (over-none _ _ _ _ _ _ (first-stop .first-stop .ensures) names k refl (if1 .if1 .left))
 
 pub judge-spec : {M : Type 1} → statement M
 judge-spec =

@@ -16,7 +16,11 @@ loop-holds : tie.Need-loop-holds Inv-loop μ-loop
 loop-holds c = let a = c .before .args in larger-none (a .codes .now) (a .most) (c .before .pre)
 
 loop-again : tie.Need-loop-again Inv-loop μ-loop
-loop-again c = let a = c .before .before .before .before .before .before .args in larger-one (a .codes .now) (a .most) (c .before .before .before .before .loop .i) (c .before .before .before .before .loop .largest) (c .before .before .before .loop-test .taken) (c .before .before .before .before .loop .inv) _ (c .before .size .ensures) _ (c .max .ensures)
+loop-again c =
+    let test = c .before .before .before in
+    let loop = test .before in
+    let start = loop .before .before in
+    let a = start .args in larger-one (a .codes .now) (a .most) (loop .loop .i) (loop .loop .largest) (test .loop-test .taken) (loop .loop .inv) _ (c .before .size .ensures) _ (c .max .ensures)
 
 returns : tie.Need-returns Inv-loop μ-loop
 returns c = let a = c .before .before .before .args in larger-all (a .codes .now) (a .most) (c .before .loop .i) (c .before .loop .largest) (c .loop-test .left) (c .before .loop .inv)

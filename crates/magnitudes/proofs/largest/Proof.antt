@@ -22,7 +22,11 @@ loop-less : tie.Need-loop-less Inv-loop μ-loop
 loop-less c = omega (arith, c .before .before .before .loop-test .taken)
 
 loop-again : tie.Need-loop-again Inv-loop μ-loop
-loop-again c = most-one (c .before .before .before .before .before .before .args .facts .now) (c .before .before .before .before .before .before .args .count) (c .before .before .before .before .loop .k) (c .before .before .before .before .loop .most) _ (c .before .before .before .loop-test .taken) (c .before .before .before .before .loop .inv) (c .larger .ensures)
+loop-again c =
+    let test = c .before .before .before in
+    let loop = test .before in
+    let start = loop .before .before in
+    most-one (start .args .facts .now) (start .args .count) (loop .loop .k) (loop .loop .most) _ (test .loop-test .taken) (loop .loop .inv) (c .larger .ensures)
 
 returns : tie.Need-returns Inv-loop μ-loop
 returns c = most-all (c .before .before .before .args .facts .now) (c .before .before .before .args .count) (c .before .loop .k) (c .before .loop .most) (c .loop-test .left) (c .before .loop .inv)

@@ -13,7 +13,9 @@ returns-2 : tie.Need-returns-2
 returns-2 c = let a = c .before .before .before .before .before .before .args in λ z names ρ w. plain-stays names (a .literals .now) (a .l) ρ (c .before .before .if1 .left) (c .if2 .taken)
 
 side-bound-requires : tie.Need-side-bound-requires
-side-bound-requires c κs = (c .before .before .before .before .before .before .pre .0 .inside, c .before .before .before .before .before .before .pre .1, c .before .before .before .before .before .before .pre .2)
+side-bound-requires c κs =
+    let start = c .before .before .before .before .before .before in
+    (start .pre .0 .inside, start .pre .1, start .pre .2)
 
 returns-3 : tie.Need-returns-3
 returns-3 c = let a = c .before .before .before .before .before .before .before .args in λ z. literal-within (a .literals .now) (a .l) (a .bounds .now) (c .before .before .before .if1 .left) _ (c .side-bound .ensures (leb-true _ _ z))

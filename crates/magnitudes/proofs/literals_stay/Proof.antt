@@ -19,13 +19,19 @@ loop-holds : tie.Need-loop-holds Inv-loop μ-loop
 loop-holds c = (omega arith, λ s. s)
 
 literal-stays-requires : tie.Need-literal-stays-requires Inv-loop μ-loop
-literal-stays-requires c κs = (c .before .before .before .before .pre .0 (c .before .loop .l) (c .before .loop .inv .0) (c .loop-test .taken), c .before .before .before .before .pre .1, c .before .before .before .before .pre .2)
+literal-stays-requires c κs =
+    let start = c .before .before .before .before in
+    (start .pre .0 (c .before .loop .l) (c .before .loop .inv .0) (c .loop-test .taken), start .pre .1, start .pre .2)
 
 returns : tie.Need-returns Inv-loop μ-loop
 returns c = λ z. absurd (false≢true z)
 
 loop-again : tie.Need-loop-again Inv-loop μ-loop
-loop-again c = let a = c .before .before .before .before .before .before .args in (omega (arith, c .before .before .before .loop .inv .0), λ s. c .before .before .before .loop .inv .1 (stay-on (a .literals .now) (a .end) (c .before .before .before .loop .l) (a .bounds .now) (c .before .before .loop-test .taken) (c .before .literal-stays .ensures (not-false _ (c .if1 .left))) s))
+loop-again c =
+    let test = c .before .before in
+    let loop = test .before in
+    let start = loop .before .before .before in
+    let a = start .args in (omega (arith, loop .loop .inv .0), λ s. loop .loop .inv .1 (stay-on (a .literals .now) (a .end) (loop .loop .l) (a .bounds .now) (test .loop-test .taken) (c .before .literal-stays .ensures (not-false _ (c .if1 .left))) s))
 
 returns-2 : tie.Need-returns-2 Inv-loop μ-loop
 returns-2 c = let a = c .before .before .before .before .args in λ z. c .before .loop .inv .1 (stay-end (a .literals .now) (a .end) (c .before .loop .l) (a .bounds .now) (c .loop-test .left))

@@ -10,13 +10,21 @@ returns : tie.Need-returns
 returns c = let a = c .before .before .before .before .before .before .args in λ g. plain-within (a .literals .now) (a .l) (a .bounds .now) (c .if1 .taken) _ (c .before .before .term-bound .ensures)
 
 returns-2 : tie.Need-returns-2
-returns-2 c = let a = c .before .before .before .before .before .before .before .before .before .args in λ g. sum-within (a .literals .now) (a .l) (a .bounds .now) (c .before .before .before .if1 .left) _ _ (c .before .before .before .before .before .term-bound .ensures) (c .before .term-bound2 .ensures) (c .if2 .taken) g
+returns-2 c =
+    let if1 = c .before .before .before in
+    let term-bound = if1 .before .before in
+    let start = term-bound .before .before .before .before in
+    let a = start .args in λ g. sum-within (a .literals .now) (a .l) (a .bounds .now) (if1 .if1 .left) _ _ (term-bound .term-bound .ensures) (c .before .term-bound2 .ensures) (c .if2 .taken) g
 
 mul-result : tie.Need-mul-result
 mul-result c = record { fits = lt-of-le-of-lt (mul-le-mul {n₂ = 1_000_000_000} {m₂ = 1_000_000_000} (c .before .before .before .before .before .term-bound .ensures .modest) (c .before .term-bound2 .ensures .modest)) (lit< tt) }
 
 returns-3 : tie.Need-returns-3
-returns-3 c = let a = c .before .before .before .before .before .before .before .before .before .args in λ g. product-within (a .literals .now) (a .l) (a .bounds .now) (c .before .before .before .if1 .left) _ _ (c .before .before .before .before .before .term-bound .ensures) (c .before .term-bound2 .ensures) (c .if2 .left) g
+returns-3 c =
+    let if1 = c .before .before .before in
+    let term-bound = if1 .before .before in
+    let start = term-bound .before .before .before .before in
+    let a = start .args in λ g. product-within (a .literals .now) (a .l) (a .bounds .now) (if1 .if1 .left) _ _ (term-bound .term-bound .ensures) (c .before .term-bound2 .ensures) (c .if2 .left) g
 
 pub side-bound-spec : {M : Type 1} → statement M
 side-bound-spec =

@@ -21,7 +21,11 @@ add-body-orders : tie.Need-add-body-orders Inv-loop μ-loop
 add-body-orders c = omega (arith, c .before .before .before .before .before .pre .body (c .before .before .before .loop .r) (c .before .before .loop-test .taken), c .before .rule-column .ensures, c .rule-column2 .ensures)
 
 body-orders-requires : tie.Need-body-orders-requires Inv-loop μ-loop
-body-orders-requires c κs = (c .before .before .before .before .before .pre .long, omega (arith, c .before .before .before .before .before .pre .body (c .before .before .before .loop .r) (c .before .before .loop-test .taken), c .before .rule-column .ensures, c .rule-column2 .ensures))
+body-orders-requires c κs =
+    let test = c .before .before in
+    let loop = test .before in
+    let start = loop .before .before in
+    (start .pre .long, omega (arith, start .pre .body (loop .loop .r) (test .loop-test .taken), c .before .rule-column .ensures, c .rule-column2 .ensures))
 
 returns : tie.Need-returns Inv-loop μ-loop
 returns c = λ e. absurd (true≢false e)

@@ -26,10 +26,18 @@ literal-leaves-requires : tie.Need-literal-leaves-requires Inv-loop μ-loop
 literal-leaves-requires c κs = (c .before .before .before .before .pre .0 (c .before .loop .l) (c .before .loop .inv .0) (c .loop-test .taken), c .before .before .before .before .pre .1)
 
 returns : tie.Need-returns Inv-loop μ-loop
-returns c = λ names. sym (c .before .before .before .loop .inv .1 names ∙ some-here _ (c .before .before .before .before .before .before .args .literals .now) (c .before .before .before .before .before .before .args .end) (c .before .before .before .loop .l) (c .before .before .loop-test .taken) (sym (c .before .literal-leaves .ensures names) ∙ c .if1 .taken))
+returns c =
+    let test = c .before .before in
+    let loop = test .before in
+    let start = loop .before .before .before in
+    λ names. sym (loop .loop .inv .1 names ∙ some-here _ (start .args .literals .now) (start .args .end) (loop .loop .l) (test .loop-test .taken) (sym (c .before .literal-leaves .ensures names) ∙ c .if1 .taken))
 
 loop-again : tie.Need-loop-again Inv-loop μ-loop
-loop-again c = (omega (arith, c .before .before .before .loop .inv .0), λ names. c .before .before .before .loop .inv .1 names ∙ some-later _ (c .before .before .before .before .before .before .args .literals .now) (c .before .before .before .before .before .before .args .end) (c .before .before .before .loop .l) (c .before .before .loop-test .taken) (sym (c .before .literal-leaves .ensures names) ∙ c .if1 .left))
+loop-again c =
+    let test = c .before .before in
+    let loop = test .before in
+    let start = loop .before .before .before in
+    (omega (arith, loop .loop .inv .0), λ names. loop .loop .inv .1 names ∙ some-later _ (start .args .literals .now) (start .args .end) (loop .loop .l) (test .loop-test .taken) (sym (c .before .literal-leaves .ensures names) ∙ c .if1 .left))
 
 returns-2 : tie.Need-returns-2 Inv-loop μ-loop
 returns-2 c = λ names. sym (c .before .loop .inv .1 names ∙ some-end _ (c .before .before .before .before .args .literals .now) (c .before .before .before .before .args .end) (c .before .loop .l) (c .loop-test .left))

@@ -7,16 +7,27 @@ use Rattle.overflow.proofs.literal_leaves.Statement.{statement}
 use Rattle.overflow.proofs.literal_leaves.Tie as tie
 
 returns : tie.Need-returns
-returns c = λ names. sym (classical-stays names (c .before .before .before .before .args .literals .now) (c .before .before .before .before .args .l) (values-in (c .before .before .before .before .args .bound) (c .before .before .before .before .args .values .now)) (c .if1 .taken))
+returns c =
+    let start = c .before .before .before .before in
+    λ names. sym (classical-stays names (start .args .literals .now) (start .args .l) (values-in (start .args .bound) (start .args .values .now)) (c .if1 .taken))
 
 returns-2 : tie.Need-returns-2
-returns-2 c = λ names. sym (plain-stays names (c .before .before .before .before .before .before .args .literals .now) (c .before .before .before .before .before .before .args .l) (values-in (c .before .before .before .before .before .before .args .bound) (c .before .before .before .before .before .before .args .values .now)) (c .before .before .if1 .left) (c .if2 .taken))
+returns-2 c =
+    let if1 = c .before .before in
+    let start = if1 .before .before .before .before in
+    λ names. sym (plain-stays names (start .args .literals .now) (start .args .l) (values-in (start .args .bound) (start .args .values .now)) (if1 .if1 .left) (c .if2 .taken))
 
 right-value-requires : tie.Need-right-value-requires
-right-value-requires c κs = (c .before .before .before .before .before .before .pre .0 .inside, c .before .before .before .before .before .before .pre .0 .side (c .before .before .if1 .left), c .before .before .before .before .before .before .pre .1)
+right-value-requires c κs =
+    let if1 = c .before .before in
+    let start = if1 .before .before .before .before in
+    (start .pre .0 .inside, start .pre .0 .side (if1 .if1 .left), start .pre .1)
 
 returns-3 : tie.Need-returns-3
-returns-3 c = λ names. computed-leaves names (c .before .before .before .before .before .before .before .args .literals .now) (c .before .before .before .before .before .before .before .args .l) (values-in (c .before .before .before .before .before .before .before .args .bound) (c .before .before .before .before .before .before .before .args .values .now)) (c .before .before .before .if1 .left) (c .before .if2 .left) _ (c .right-value .ensures names .partial)
+returns-3 c =
+    let if1 = c .before .before .before in
+    let start = if1 .before .before .before .before in
+    λ names. computed-leaves names (start .args .literals .now) (start .args .l) (values-in (start .args .bound) (start .args .values .now)) (if1 .if1 .left) (c .before .if2 .left) _ (c .right-value .ensures names .partial)
 
 pub literal-leaves-spec : {M : Type 1} → statement M
 literal-leaves-spec =

@@ -15,7 +15,11 @@ write-read-requires : tie.Need-write-read-requires
 write-read-requires c κs = readable (c .before .before .before .before .before .before .before .before .read-program .ensures) (c .before .if1 .left)
 
 returns-2 : tie.Need-returns-2
-returns-2 c = writes-it (c .before .before .before .before .before .before .before .before .before .before .before .read-program .ensures) (c .before .before .before .before .if1 .left) _ _ _ (c .before .before .write-read .ensures)
+returns-2 c =
+    let write-read = c .before .before in
+    let if1 = write-read .before .before in
+    let read-program = if1 .before .before .before .before .before .before .before in
+    writes-it (read-program .read-program .ensures) (if1 .if1 .left) _ _ _ (write-read .write-read .ensures)
 
 pub with-names-spec : {M : Type 1} → statement M
 with-names-spec =

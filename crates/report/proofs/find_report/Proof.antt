@@ -27,35 +27,54 @@ part-bytes-end c =
 
 returns-2 : tie.Need-returns-2
 returns-2 c =
-    let first = c .before .before .before .before .before .before .before .before .before .before .out-of-place .ensures in
-    let line = c .before .before .before .before .before .before .before .before .line .given .1 in
-    let next = c .before .before .before .before .next-line .ensures in
-    let word = sym (c .before .before .starts-with .ensures) ∙ c .before .if1 .taken in
+    let starts-with = c .before .before in
+    let next-line = starts-with .before .before in
+    let at-line = next-line .before .before .before .before in
+    let out-of-place = at-line .before .before in
+    let first = out-of-place .out-of-place .ensures in
+    let line = at-line .line .given .1 in
+    let next = next-line .next-line .ensures in
+    let word = sym (starts-with .starts-with .ensures) ∙ c .before .if1 .taken in
     report-says _ first _ line _ next Answer word _ (c .answer .ensures)
 
 returns-3 : tie.Need-returns-3
 returns-3 c =
-    let first = c .before .before .before .before .before .before .before .before .before .before .before .before .before .out-of-place .ensures in
-    let line = c .before .before .before .before .before .before .before .before .before .before .before .line .given .1 in
-    let next = c .before .before .before .before .before .before .before .next-line .ensures in
-    let word = sym (c .before .before .starts-with2 .ensures) ∙ c .before .if2 .taken in
+    let starts-with2 = c .before .before in
+    let next-line = starts-with2 .before .before .before .before .before in
+    let at-line = next-line .before .before .before .before in
+    let out-of-place = at-line .before .before in
+    let first = out-of-place .out-of-place .ensures in
+    let line = at-line .line .given .1 in
+    let next = next-line .next-line .ensures in
+    let word = sym (starts-with2 .starts-with2 .ensures) ∙ c .before .if2 .taken in
     report-claims _ first _ line _ next Inconsistent word (λ ls. refl) _ (c .found .ensures)
 
 returns-4 : tie.Need-returns-4
 returns-4 c =
-    let first = c .before .before .before .before .before .before .before .before .before .before .before .before .before .before .before .before .out-of-place .ensures in
-    let line = c .before .before .before .before .before .before .before .before .before .before .before .before .before .before .line .given .1 in
-    let next = c .before .before .before .before .before .before .before .before .before .before .next-line .ensures in
-    let word = sym (c .before .before .starts-with3 .ensures) ∙ c .before .if3 .taken in
+    let starts-with3 = c .before .before in
+    let next-line = starts-with3 .before .before .before .before .before .before .before .before in
+    let at-line = next-line .before .before .before .before in
+    let out-of-place = at-line .before .before in
+    let first = out-of-place .out-of-place .ensures in
+    let line = at-line .line .given .1 in
+    let next = next-line .next-line .ensures in
+    let word = sym (starts-with3 .starts-with3 .ensures) ∙ c .before .if3 .taken in
     report-claims _ first _ line _ next Unknown word (λ ls. refl) _ (c .found2 .ensures)
 
 returns-5 : tie.Need-returns-5
 returns-5 c =
-    let first = c .before .before .before .before .before .before .before .before .before .before .before .before .before .before .before .before .out-of-place .ensures in
-    let line = c .before .before .before .before .before .before .before .before .before .before .before .before .before .before .line .given .1 in
-    let no-answer = sym (c .before .before .before .before .before .before .before .before .starts-with .ensures) ∙ c .before .before .before .before .before .before .before .if1 .left in
-    let no-inconsistent = sym (c .before .before .before .before .before .starts-with2 .ensures) ∙ c .before .before .before .before .if2 .left in
-    let no-unknown = sym (c .before .before .starts-with3 .ensures) ∙ c .before .if3 .left in
+    let starts-with3 = c .before .before in
+    let if2 = starts-with3 .before .before in
+    let starts-with2 = if2 .before in
+    let if1 = starts-with2 .before .before in
+    let starts-with = if1 .before in
+    let at-line = starts-with .before .before .before .before .before .before in
+    let out-of-place = at-line .before .before in
+    let first = out-of-place .out-of-place .ensures in
+    let line = at-line .line .given .1 in
+    let no-answer = sym (starts-with .starts-with .ensures) ∙ if1 .if1 .left in
+    let no-inconsistent = sym (starts-with2 .starts-with2 .ensures) ∙ if2 .if2 .left in
+    let no-unknown = sym (starts-with3 .starts-with3 .ensures) ∙ c .before .if3 .left in
     report-stray _ first _ line no-answer no-inconsistent no-unknown _ (c .refused2 .ensures)
 
 pub find-report-spec : {M : Type 1} → statement M

@@ -22,16 +22,34 @@ loop-holds : tie.Need-loop-holds Inv-loop μ-loop
 loop-holds c = refl
 
 returns : tie.Need-returns Inv-loop μ-loop
-returns c = inv (c .before .before .before .loop .inv ∙ no-dot (c .before .before .before .before .before .args .ground) (c .before .before .before .before .before .args .text .now) (c .before .before .before .loop .next) _ (c .before .before .token-at .ensures) (c .if1 .taken))
+returns c =
+    let token-at = c .before .before in
+    let loop = token-at .before in
+    let start = loop .before .before in
+    inv (loop .loop .inv ∙ no-dot (start .args .ground) (start .args .text .now) (loop .loop .next) _ (token-at .token-at .ensures) (c .if1 .taken))
 
 returns-2 : tie.Need-returns-2 Inv-loop μ-loop
-returns-2 c = inv (c .before .before .before .before .before .loop .inv ∙ dot-here (c .before .before .before .before .before .before .before .args .ground) (c .before .before .before .before .before .before .before .args .text .now) (c .before .before .before .before .before .loop .next) _ (c .before .before .before .before .token-at .ensures) (c .if2 .taken))
+returns-2 c =
+    let token-at = c .before .before .before .before in
+    let loop = token-at .before in
+    let start = loop .before .before in
+    inv (loop .loop .inv ∙ dot-here (start .args .ground) (start .args .text .now) (loop .loop .next) _ (token-at .token-at .ensures) (c .if2 .taken))
 
 loop-less : tie.Need-loop-less Inv-loop μ-loop
-loop-less c = omega (arith, further (c .before .before .before .before .before .before .before .args .ground) (c .before .before .before .before .before .before .before .args .text .now) (c .before .before .before .before .before .loop .next) _ (c .before .before .before .before .token-at .ensures) (c .before .before .if1 .left), within (c .before .before .before .before .before .before .before .args .ground) (c .before .before .before .before .before .before .before .args .text .now) (c .before .before .before .before .before .loop .next) _ (c .before .before .before .before .token-at .ensures))
+loop-less c =
+    let if1 = c .before .before in
+    let token-at = if1 .before .before in
+    let loop = token-at .before in
+    let start = loop .before .before in
+    omega (arith, further (start .args .ground) (start .args .text .now) (loop .loop .next) _ (token-at .token-at .ensures) (if1 .if1 .left), within (start .args .ground) (start .args .text .now) (loop .loop .next) _ (token-at .token-at .ensures))
 
 loop-again : tie.Need-loop-again Inv-loop μ-loop
-loop-again c = c .before .before .before .before .before .loop .inv ∙ dot-later (c .before .before .before .before .before .before .before .args .ground) (c .before .before .before .before .before .before .before .args .text .now) (c .before .before .before .before .before .loop .next) _ (c .before .before .before .before .token-at .ensures) (c .before .before .if1 .left) (c .if2 .left)
+loop-again c =
+    let if1 = c .before .before in
+    let token-at = if1 .before .before in
+    let loop = token-at .before in
+    let start = loop .before .before in
+    loop .loop .inv ∙ dot-later (start .args .ground) (start .args .text .now) (loop .loop .next) _ (token-at .token-at .ensures) (if1 .if1 .left) (c .if2 .left)
 
 pub dot-end-spec : {M : Type 1} → statement M
 dot-end-spec =

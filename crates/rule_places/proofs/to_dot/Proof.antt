@@ -8,7 +8,10 @@ use Rattle.rule_places.proofs.to_dot.Statement.{statement}
 use Rattle.rule_places.proofs.to_dot.Tie as tie
 
 returns : tie.Need-returns
-returns c = inv (no-token (c .before .before .before .before .before .args .ground) (c .before .before .before .before .before .args .text .now) (c .before .before .before .before .before .args .at) _ (c .before .before .before .token-at .ensures) (c .if1 .taken))
+returns c =
+    let token-at = c .before .before .before in
+    let start = token-at .before .before in
+    inv (no-token (start .args .ground) (start .args .text .now) (start .args .at) _ (token-at .token-at .ensures) (c .if1 .taken))
 
 sub-place-from : tie.Need-sub-place-from
 sub-place-from c =

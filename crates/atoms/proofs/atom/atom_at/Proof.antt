@@ -4,7 +4,7 @@ use Rattle.rows.proofs.Growth.{room-less}
 use Rattle.names.proofs.Numbered.{grown-coded-name}
 use Rattle.rows.proofs.Terms.{name-below}
 use Rattle.syntax.proofs.Tokens.{within, forward}
-use Rattle.atoms.proofs.TermLaws.{name-filled}
+use Rattle.terms.proofs.TermLaws.{name-filled}
 use Rattle.atoms.proofs.AtomLaws.{ready-behind, ready-named, atom-stops, atom-goes, signed-over, signed-goes, atom-wrong}
 use borrow.Author.Needs.{needs}
 use Rattle.atoms.proofs.atom.atom_at.Statement.{statement}
@@ -30,9 +30,10 @@ named-atom-requires : tie.Need-named-atom-requires
 named-atom-requires c κs =
     let name-number = c .before .before .before .before in
     let if1 = name-number .before .before .before .before in
-    let token-at = if1 .before .before .before in
+    let onward = if1 .before .before in
+    let token-at = onward .before in
     let start = token-at .before .before .before .before .before .before in
-    record { ready = ready-named (start .args .program .now) (start .args .output .now) (start .args .text .now) (start .args .names .now) (start .args .variables .now) (start .args .cursor) (start .pre .ready) _ (token-at .token-at .ensures) (if1 .if1 .taken) _ _ (name-number .name-number .ensures); small = name-below _ _ _ _ _ _ (name-number .name-number .ensures); bytes = _; stands = grown-coded-name _ _ _ _ (name-number .name-number .ensures .1) }
+    record { ready = rw (onward .onward .ensures) (ready-named (start .args .program .now) (start .args .output .now) (start .args .text .now) (start .args .names .now) (start .args .variables .now) (start .args .cursor) (start .pre .ready) _ (token-at .token-at .ensures) (if1 .if1 .taken) _ _ (name-number .name-number .ensures)); small = name-below _ _ _ _ _ _ (name-number .name-number .ensures); bytes = _; stands = grown-coded-name _ _ _ _ (name-number .name-number .ensures .1) }
 
 returns-2 : tie.Need-returns-2
 returns-2 c =
@@ -41,9 +42,10 @@ returns-2 c =
     let if2 = name-number .before .before in
     let word-code = if2 .before in
     let if1 = word-code .before in
-    let token-at = if1 .before .before .before in
+    let onward = if1 .before .before in
+    let token-at = onward .before in
     let start = token-at .before .before .before .before .before .before in
-    atom-goes (start .args .program .now) (start .args .output .now) (start .args .text .now) (start .args .names .now) (start .args .variables .now) (start .args .cursor) (start .pre .ready) _ (token-at .token-at .ensures) _ (if1 .if1 .taken) _ (word-code .word-code .ensures) (if2 .if2 .left) _ _ (name-number .name-number .ensures) _ _ (named-atom .named-atom .ensures)
+    atom-goes (start .args .program .now) (start .args .output .now) (start .args .text .now) (start .args .names .now) (start .args .variables .now) (start .args .cursor) (start .pre .ready) _ (token-at .token-at .ensures) _ (if1 .if1 .taken) _ (word-code .word-code .ensures) (if2 .if2 .left) _ _ (name-number .name-number .ensures) _ _ (rw (onward .onward .ensures) at (named-atom .named-atom .ensures))
 
 returns-3 : tie.Need-returns-3
 returns-3 c =
@@ -64,23 +66,26 @@ returns-4 c =
 minus-atom-requires : tie.Need-minus-atom-requires
 minus-atom-requires c κs =
     let if3 = c .before .before .before in
-    let token-at = if3 .before .before .before .before .before in
+    let onward = if3 .before .before .before .before in
+    let token-at = onward .before in
     let start = token-at .before .before .before .before .before .before in
-    ready-behind (start .args .program .now) (start .args .output .now) (start .args .text .now) (start .args .names .now) (start .args .variables .now) (start .args .cursor) (start .pre .ready) _ (token-at .token-at .ensures) 10 (if3 .if3 .left) (λ z. omega arith)
+    rw (onward .onward .ensures) (ready-behind (start .args .program .now) (start .args .output .now) (start .args .text .now) (start .args .names .now) (start .args .variables .now) (start .args .cursor) (start .pre .ready) _ (token-at .token-at .ensures) 10 (if3 .if3 .left) (λ z. omega arith))
 
 returns-5 : tie.Need-returns-5
 returns-5 c =
     let minus-atom = c .before .before .before .before in
     let if4 = minus-atom .before .before .before in
     let if3 = if4 .before in
-    let token-at = if3 .before .before .before .before .before in
+    let onward = if3 .before .before .before .before in
+    let token-at = onward .before in
     let start = token-at .before .before .before .before .before .before in
-    signed-goes (start .args .program .now) (start .args .output .now) (start .args .text .now) (start .args .names .now) (start .args .variables .now) (start .args .cursor) (start .pre .ready) _ (token-at .token-at .ensures) _ (if3 .if3 .left) (if4 .if4 .left) _ _ (minus-atom .minus-atom .ensures)
+    signed-goes (start .args .program .now) (start .args .output .now) (start .args .text .now) (start .args .names .now) (start .args .variables .now) (start .args .cursor) (start .pre .ready) _ (token-at .token-at .ensures) _ (if3 .if3 .left) (if4 .if4 .left) _ _ (rw (onward .onward .ensures) at (minus-atom .minus-atom .ensures))
 
 pub atom-at-spec : {M : Type 1} → statement M
 atom-at-spec =
     tie.close
     (tie.spec
+    (λ c κs. search needs)
     (λ c κs. search needs)
     (λ c κs. search needs)
     (λ c κs. search needs)

@@ -17,7 +17,10 @@ verdict-requires c κs =
     room-to-count _ (p .output) (p .names) _ _ _ _ _ _ (s .program-rules) (s .candidate) (s .stands) _ _ (s .room) (c .before .before .judge .result) (c .before .before .judge .ensures _ (p .comparing)) wide
 
 returns : tie.Need-returns
-returns c = λ output names P I s k. gives _ output names _ _ _ _ _ _ P I s _ _ (c .before .before .before .before .before .before .before .before .before .pre .settling .room) (c .before .before .before .judge .result) (c .before .before .before .judge .ensures _ k) _ (c .verdict .ensures)
+returns c =
+    let judge = c .before .before .before in
+    let start = judge .before .before .before .before .before .before in
+    λ output names P I s k. gives _ output names _ _ _ _ _ _ P I s _ _ (start .pre .settling .room) (judge .judge .result) (judge .judge .ensures _ k) _ (c .verdict .ensures)
 
 pub judged-spec : {M : Type 1} → statement M
 judged-spec = tie.close (tie.spec judge-requires verdict-requires (λ c. search needs) returns)

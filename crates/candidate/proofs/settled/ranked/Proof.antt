@@ -5,10 +5,17 @@ use Rattle.candidate.proofs.settled.ranked.Statement.{statement}
 use Rattle.candidate.proofs.settled.ranked.Tie as tie
 
 judged-requires : tie.Need-judged-requires
-judged-requires c κs = record { output = c .before .before .before .before .before .before .before .before .before .before .before .before .args .output .now; names = c .before .before .before .before .before .before .before .before .before .before .before .before .args .names .now; settling = c .before .before .before .before .before .before .before .before .before .before .before .before .pre .0; comparing = comparing-ranked _ _ _ _ _ _ (c .before .before .before .before .before .before .before .before .before .before .before .before .pre .0) _ (c .before .before .before .before .rank-names .ensures) }
+judged-requires c κs =
+    let rank-names = c .before .before .before .before in
+    let start = rank-names .before .before .before .before .before .before .before .before in
+    record { output = start .args .output .now; names = start .args .names .now; settling = start .pre .0; comparing = comparing-ranked _ _ _ _ _ _ (start .pre .0) _ (rank-names .rank-names .ensures) }
 
 returns : tie.Need-returns
-returns c = λ P I s. c .before .before .judged .ensures _ _ P I s (comparing-ranked _ _ _ _ _ _ (c .before .before .before .before .before .before .before .before .before .before .before .before .before .before .before .pre .0) _ (c .before .before .before .before .before .before .before .rank-names .ensures))
+returns c =
+    let judged = c .before .before in
+    let rank-names = judged .before .before .before .before .before in
+    let start = rank-names .before .before .before .before .before .before .before .before in
+    λ P I s. judged .judged .ensures _ _ P I s (comparing-ranked _ _ _ _ _ _ (start .pre .0) _ (rank-names .rank-names .ensures))
 
 pub ranked-spec : {M : Type 1} → statement M
 ranked-spec =

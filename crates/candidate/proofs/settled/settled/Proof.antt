@@ -8,10 +8,19 @@ any-orders-requires : tie.Need-any-orders-requires
 any-orders-requires c κs = rules-inside _ _ _ _ _ _ (c .before .before .before .before .before .before .pre)
 
 judged-requires : tie.Need-judged-requires
-judged-requires c κs = record { output = c .before .before .before .before .before .before .before .before .before .before .args .output .now; names = c .before .before .before .before .before .before .before .before .before .before .args .names .now; settling = c .before .before .before .before .before .before .before .before .before .before .pre; comparing = comparing-plain _ _ _ _ _ _ (c .before .before .before .before .before .before .before .before .before .before .pre) _ (names-cut _ _ _ _ _ _ (c .before .before .before .before .before .before .before .before .before .before .pre)) (c .before .before .before .any-orders .ensures (c .before .before .if1 .left)) }
+judged-requires c κs =
+    let if1 = c .before .before in
+    let any-orders = if1 .before in
+    let start = any-orders .before .before .before .before .before .before .before in
+    record { output = start .args .output .now; names = start .args .names .now; settling = start .pre; comparing = comparing-plain _ _ _ _ _ _ (start .pre) _ (names-cut _ _ _ _ _ _ (start .pre)) (any-orders .any-orders .ensures (if1 .if1 .left)) }
 
 returns-2 : tie.Need-returns-2
-returns-2 c = λ P I s. c .before .before .judged .ensures _ _ P I s (comparing-plain _ _ _ _ _ _ (c .before .before .before .before .before .before .before .before .before .before .before .before .before .pre) _ (names-cut _ _ _ _ _ _ (c .before .before .before .before .before .before .before .before .before .before .before .before .before .pre)) (c .before .before .before .before .before .before .any-orders .ensures (c .before .before .before .before .before .if1 .left)))
+returns-2 c =
+    let judged = c .before .before in
+    let if1 = judged .before .before .before in
+    let any-orders = if1 .before in
+    let start = any-orders .before .before .before .before .before .before .before in
+    λ P I s. judged .judged .ensures _ _ P I s (comparing-plain _ _ _ _ _ _ (start .pre) _ (names-cut _ _ _ _ _ _ (start .pre)) (any-orders .any-orders .ensures (if1 .if1 .left)))
 
 pub settled-spec : {M : Type 1} → statement M
 settled-spec =

@@ -20,26 +20,28 @@ loop-holds c =
 
 literal-at-requires : tie.Need-literal-at-requires Inv-loop μ-loop
 literal-at-requires c κs =
-    let loop = c .before .before in
+    let onward = c .before .before in
+    let loop = onward .before in
     let start = loop .before .before .before .before .before .before in
-    going-ready (start .args .program .now) (start .args .output .now) (start .args .names .now) (start .args .variables .now) (start .args .literals .now) (start .args .cursor) (start .args .first) _ _ _ _ _ _ (loop .loop .inv) (start .pre)
+    rw (onward .onward .ensures) (going-ready (start .args .program .now) (start .args .output .now) (start .args .names .now) (start .args .variables .now) (start .args .literals .now) (start .args .cursor) (start .args .first) _ _ _ _ _ _ (loop .loop .inv) (start .pre) _)
 
 same-length : tie.Need-same-length Inv-loop μ-loop
-same-length c = search (needs, c .before .before .before .before .before .before .before .before .before .before .before .before .loop .inv .long, c .before .before .before .before .before .before .before .before .before .before .before .before .loop .inv .names-long, c .before .before .before .before .before .before .before .before .before .before .before .before .loop .inv .literals-long)
+same-length c = search (needs, c .before .before .before .before .before .before .before .before .before .before .before .loop .inv .long, c .before .before .before .before .before .before .before .before .before .before .before .loop .inv .names-long, c .before .before .before .before .before .before .before .before .before .before .before .loop .inv .literals-long)
 
 same-length-2 : tie.Need-same-length-2 Inv-loop μ-loop
-same-length-2 c = search (needs, c .before .before .before .before .before .before .before .before .before .before .before .before .loop .inv .long, c .before .before .before .before .before .before .before .before .before .before .before .before .loop .inv .names-long, c .before .before .before .before .before .before .before .before .before .before .before .before .loop .inv .literals-long)
+same-length-2 c = search (needs, c .before .before .before .before .before .before .before .before .before .before .before .loop .inv .long, c .before .before .before .before .before .before .before .before .before .before .before .loop .inv .names-long, c .before .before .before .before .before .before .before .before .before .before .before .loop .inv .literals-long)
 
 same-length-3 : tie.Need-same-length-3 Inv-loop μ-loop
-same-length-3 c = search (needs, c .before .before .before .before .before .before .before .before .before .before .before .before .loop .inv .long, c .before .before .before .before .before .before .before .before .before .before .before .before .loop .inv .names-long, c .before .before .before .before .before .before .before .before .before .before .before .before .loop .inv .literals-long)
+same-length-3 c = search (needs, c .before .before .before .before .before .before .before .before .before .before .before .loop .inv .long, c .before .before .before .before .before .before .before .before .before .before .before .loop .inv .names-long, c .before .before .before .before .before .before .before .before .before .before .before .loop .inv .literals-long)
 
 returns : tie.Need-returns Inv-loop μ-loop
 returns c =
-    let if1 = c .before .before in
-    let literal-at = if1 .before .before .before .before .before .before .before in
-    let loop = literal-at .before .before .before in
+    let if1 = c .before in
+    let literal-at = if1 .before .before .before .before .before .before in
+    let onward = literal-at .before .before .before in
+    let loop = onward .before in
     let start = loop .before .before .before .before .before .before in
-    going-stops (start .args .program .now) (start .args .output .now) (start .args .names .now) (start .args .variables .now) (start .args .literals .now) (start .args .cursor) (start .args .first) _ _ _ _ _ _ (loop .loop .inv) _ _ _ (literal-at .literal-at .ensures) _ _ _ (if1 .if1 .taken) _ (c .stopped .ensures)
+    going-stops (start .args .program .now) (start .args .output .now) (start .args .names .now) (start .args .variables .now) (start .args .literals .now) (start .args .cursor) (start .args .first) _ _ _ _ _ _ (loop .loop .inv) _ _ _ (rw (onward .onward .ensures) at (literal-at .literal-at .ensures)) _ _ _ (if1 .if1 .taken) _ (c .stopped .ensures)
 
 add-put-literal : tie.Need-add-put-literal Inv-loop μ-loop
 add-put-literal c =
@@ -50,70 +52,75 @@ add-put-literal c =
 put-literal-requires : tie.Need-put-literal-requires Inv-loop μ-loop
 put-literal-requires c κs =
     let if1 = c .before .before in
-    let literal-at = if1 .before .before .before .before .before .before .before in
-    let loop = literal-at .before .before .before in
+    let literal-at = if1 .before .before .before .before .before .before in
+    let onward = literal-at .before .before .before in
+    let loop = onward .before in
     let start = loop .before .before .before .before .before .before in
-    going-fits (start .args .program .now) (start .args .output .now) (start .args .names .now) (start .args .variables .now) (start .args .literals .now) (start .args .cursor) (start .args .first) _ _ _ _ _ _ (loop .loop .inv) _ _ _ (literal-at .literal-at .ensures) (if1 .if1 .left) (start .pre .long)
+    going-fits (start .args .program .now) (start .args .output .now) (start .args .names .now) (start .args .variables .now) (start .args .literals .now) (start .args .cursor) (start .args .first) _ _ _ _ _ _ (loop .loop .inv) _ _ _ (rw (onward .onward .ensures) at (literal-at .literal-at .ensures)) (if1 .if1 .left) (start .pre .long)
 
 add-count : tie.Need-add-count Inv-loop μ-loop
 add-count c =
     let if1 = c .before .before .before .before .before in
-    let literal-at = if1 .before .before .before .before .before .before .before in
-    let loop = literal-at .before .before .before in
+    let literal-at = if1 .before .before .before .before .before .before in
+    let onward = literal-at .before .before .before in
+    let loop = onward .before in
     let start = loop .before .before .before .before .before .before in
-    let m = going-room (start .args .program .now) (start .args .output .now) (start .args .names .now) (start .args .variables .now) (start .args .literals .now) (start .args .cursor) (start .args .first) _ _ _ _ _ _ (loop .loop .inv) _ _ _ (literal-at .literal-at .ensures) (if1 .if1 .left) in omega arith
+    let m = going-room (start .args .program .now) (start .args .output .now) (start .args .names .now) (start .args .variables .now) (start .args .literals .now) (start .args .cursor) (start .args .first) _ _ _ _ _ _ (loop .loop .inv) _ _ _ (rw (onward .onward .ensures) at (literal-at .literal-at .ensures)) (if1 .if1 .left) in omega arith
 
 same-length-4 : tie.Need-same-length-4 Inv-loop μ-loop
-same-length-4 c = search (needs, c .before .before .before .before .before .before .before .before .before .before .before .before .before .before .before .before .before .before .before .before .before .loop .inv .names-long, c .before .before .before .before .before .before .before .before .before .before .before .before .before .before .before .before .slice-known4 .given, c .before .before .before .before .before .before .before .before .before .before .before .before .before .before .before .before .before .names .given, c .before .before .before .before .before .before .before .before .before .before .before .before .before .before .before .before .before .before .literal-at)
+same-length-4 c = search (needs, c .before .before .before .before .before .before .before .before .before .before .before .before .before .before .before .before .before .before .before .loop .inv .names-long, c .before .before .before .before .before .before .before .before .before .before .before .before .before .slice-known4 .given, c .before .before .before .before .before .before .before .before .before .before .before .before .before .before .names .given, c .before .before .before .before .before .before .before .before .before .before .before .before .before .before .before .literal-at)
 
 same-length-5 : tie.Need-same-length-5 Inv-loop μ-loop
-same-length-5 c = search (needs, c .before .before .before .before .before .before .before .before .before .before .before .before .before .before .before .before .before .before .before .before .before .loop .inv .long, c .before .before .before .before .before .before .before .before .before .before .before .before .before .before .before .before .before .before .before .before .before .loop .inv .names-long, c .before .before .before .before .before .before .before .before .before .before .before .before .before .before .before .before .before .before .before .before .before .loop .inv .literals-long)
+same-length-5 c = search (needs, c .before .before .before .before .before .before .before .before .before .before .before .before .before .before .before .before .before .before .before .loop .inv .long, c .before .before .before .before .before .before .before .before .before .before .before .before .before .before .before .before .before .before .before .loop .inv .names-long, c .before .before .before .before .before .before .before .before .before .before .before .before .before .before .before .before .before .before .before .loop .inv .literals-long)
 
 same-length-6 : tie.Need-same-length-6 Inv-loop μ-loop
-same-length-6 c = search (needs, c .before .before .before .before .before .before .before .before .before .before .before .before .before .before .before .before .before .before .before .before .before .loop .inv .long, c .before .before .before .before .before .before .before .before .before .before .before .before .before .before .before .before .before .before .before .before .before .loop .inv .names-long, c .before .before .before .before .before .before .before .before .before .before .before .before .before .before .before .before .before .before .before .before .before .loop .inv .literals-long)
+same-length-6 c = search (needs, c .before .before .before .before .before .before .before .before .before .before .before .before .before .before .before .before .before .before .before .loop .inv .long, c .before .before .before .before .before .before .before .before .before .before .before .before .before .before .before .before .before .before .before .loop .inv .names-long, c .before .before .before .before .before .before .before .before .before .before .before .before .before .before .before .before .before .before .before .loop .inv .literals-long)
 
 returns-2 : tie.Need-returns-2 Inv-loop μ-loop
 returns-2 c =
-    let if2 = c .before .before in
-    let separator-at = if2 .before .before .before in
+    let if2 = c .before in
+    let separator-at = if2 .before .before in
     let put-literal = separator-at .before .before .before in
     let if1 = put-literal .before .before .before in
-    let literal-at = if1 .before .before .before .before .before .before .before in
-    let loop = literal-at .before .before .before in
+    let literal-at = if1 .before .before .before .before .before .before in
+    let onward = literal-at .before .before .before in
+    let loop = onward .before in
     let start = loop .before .before .before .before .before .before in
-    going-wrong (start .args .program .now) (start .args .output .now) (start .args .names .now) (start .args .variables .now) (start .args .literals .now) (start .args .cursor) (start .args .first) _ _ _ _ _ _ (loop .loop .inv) _ _ _ (literal-at .literal-at .ensures) (if1 .if1 .left) (start .pre .long) (put-literal .put-literal .ensures .0) _ (put-literal .put-literal .ensures .1) _ (separator-at .separator-at .ensures) _ _ _ (if2 .if2 .taken) _ (c .stopped2 .ensures)
+    going-wrong (start .args .program .now) (start .args .output .now) (start .args .names .now) (start .args .variables .now) (start .args .literals .now) (start .args .cursor) (start .args .first) _ _ _ _ _ _ (loop .loop .inv) _ _ _ (rw (onward .onward .ensures) at (literal-at .literal-at .ensures)) (if1 .if1 .left) (start .pre .long) (put-literal .put-literal .ensures .0) _ (put-literal .put-literal .ensures .1) _ (separator-at .separator-at .ensures) _ _ _ (if2 .if2 .taken) _ (c .stopped2 .ensures)
 
 same-length-7 : tie.Need-same-length-7 Inv-loop μ-loop
-same-length-7 c = search (needs, c .before .before .before .before .before .before .before .before .before .before .before .before .before .before .before .before .before .before .before .before .before .loop .inv .names-long, c .before .before .before .before .before .before .before .before .before .before .before .before .before .before .before .before .slice-known4 .given, c .before .before .before .before .before .before .before .before .before .before .before .before .before .before .before .before .before .names .given, c .before .before .before .before .before .before .before .before .before .before .before .before .before .before .before .before .before .before .literal-at)
+same-length-7 c = search (needs, c .before .before .before .before .before .before .before .before .before .before .before .before .before .before .before .before .before .before .before .before .loop .inv .names-long, c .before .before .before .before .before .before .before .before .before .before .before .before .before .before .slice-known4 .given, c .before .before .before .before .before .before .before .before .before .before .before .before .before .before .before .names .given, c .before .before .before .before .before .before .before .before .before .before .before .before .before .before .before .before .literal-at)
 
 same-length-8 : tie.Need-same-length-8 Inv-loop μ-loop
-same-length-8 c = search (needs, c .before .before .before .before .before .before .before .before .before .before .before .before .before .before .before .before .before .before .before .before .before .loop .inv .long, c .before .before .before .before .before .before .before .before .before .before .before .before .before .before .before .before .before .before .before .before .before .loop .inv .names-long, c .before .before .before .before .before .before .before .before .before .before .before .before .before .before .before .before .before .before .before .before .before .loop .inv .literals-long)
+same-length-8 c = search (needs, c .before .before .before .before .before .before .before .before .before .before .before .before .before .before .before .before .before .before .before .before .loop .inv .long, c .before .before .before .before .before .before .before .before .before .before .before .before .before .before .before .before .before .before .before .before .loop .inv .names-long, c .before .before .before .before .before .before .before .before .before .before .before .before .before .before .before .before .before .before .before .before .loop .inv .literals-long)
 
 same-length-9 : tie.Need-same-length-9 Inv-loop μ-loop
-same-length-9 c = search (needs, c .before .before .before .before .before .before .before .before .before .before .before .before .before .before .before .before .before .before .before .before .before .loop .inv .long, c .before .before .before .before .before .before .before .before .before .before .before .before .before .before .before .before .before .before .before .before .before .loop .inv .names-long, c .before .before .before .before .before .before .before .before .before .before .before .before .before .before .before .before .before .before .before .before .before .loop .inv .literals-long)
+same-length-9 c = search (needs, c .before .before .before .before .before .before .before .before .before .before .before .before .before .before .before .before .before .before .before .before .loop .inv .long, c .before .before .before .before .before .before .before .before .before .before .before .before .before .before .before .before .before .before .before .before .loop .inv .names-long, c .before .before .before .before .before .before .before .before .before .before .before .before .before .before .before .before .before .before .before .before .loop .inv .literals-long)
 
 returns-3 : tie.Need-returns-3 Inv-loop μ-loop
 returns-3 c =
     let if3 = c .before in
     let if2 = if3 .before in
-    let separator-at = if2 .before .before .before in
+    let separator-at = if2 .before .before in
     let put-literal = separator-at .before .before .before in
     let if1 = put-literal .before .before .before in
-    let literal-at = if1 .before .before .before .before .before .before .before in
-    let loop = literal-at .before .before .before in
+    let literal-at = if1 .before .before .before .before .before .before in
+    let onward = literal-at .before .before .before in
+    let loop = onward .before in
     let start = loop .before .before .before .before .before .before in
-    going-end (start .args .program .now) (start .args .output .now) (start .args .names .now) (start .args .variables .now) (start .args .literals .now) (start .args .cursor) (start .args .first) _ _ _ _ _ _ (loop .loop .inv) _ _ _ (literal-at .literal-at .ensures) (if1 .if1 .left) (start .pre .long) (put-literal .put-literal .ensures .0) _ (put-literal .put-literal .ensures .1) _ (separator-at .separator-at .ensures) (if2 .if2 .left) (if3 .if3 .taken) _ (c .gone .ensures)
+    going-end (start .args .program .now) (start .args .output .now) (start .args .names .now) (start .args .variables .now) (start .args .literals .now) (start .args .cursor) (start .args .first) _ _ _ _ _ _ (loop .loop .inv) _ _ _ (rw (onward .onward .ensures) at (literal-at .literal-at .ensures)) (if1 .if1 .left) (start .pre .long) (put-literal .put-literal .ensures .0) _ (put-literal .put-literal .ensures .1) _ (separator-at .separator-at .ensures) (if2 .if2 .left) (if3 .if3 .taken) _ (c .gone .ensures)
 
 loop-less : tie.Need-loop-less Inv-loop μ-loop
 loop-less c =
-    let if1 = c .before .before .before .before .before .before .before .before .before .before in
-    let literal-at = if1 .before .before .before .before .before .before .before in
-    let loop = literal-at .before .before .before in
+    let if1 = c .before .before .before .before .before .before .before .before .before in
+    let literal-at = if1 .before .before .before .before .before .before in
+    let onward = literal-at .before .before .before in
+    let loop = onward .before in
     let start = loop .before .before .before .before .before .before in
-    let m = going-room (start .args .program .now) (start .args .output .now) (start .args .names .now) (start .args .variables .now) (start .args .literals .now) (start .args .cursor) (start .args .first) _ _ _ _ _ _ (loop .loop .inv) _ _ _ (literal-at .literal-at .ensures) (if1 .if1 .left) in omega arith
+    let m = going-room (start .args .program .now) (start .args .output .now) (start .args .names .now) (start .args .variables .now) (start .args .literals .now) (start .args .cursor) (start .args .first) _ _ _ _ _ _ (loop .loop .inv) _ _ _ (rw (onward .onward .ensures) at (literal-at .literal-at .ensures)) (if1 .if1 .left) in omega arith
 
 loop-again : tie.Need-loop-again Inv-loop μ-loop
-loop-again c = going-on (c .before .before .before .before .before .before .before .before .before .before .before .before .before .before .before .before .before .before .before .before .before .before .before .before .before .before .args .program .now) (c .before .before .before .before .before .before .before .before .before .before .before .before .before .before .before .before .before .before .before .before .before .before .before .before .before .before .args .output .now) (c .before .before .before .before .before .before .before .before .before .before .before .before .before .before .before .before .before .before .before .before .before .before .before .before .before .before .args .names .now) (c .before .before .before .before .before .before .before .before .before .before .before .before .before .before .before .before .before .before .before .before .before .before .before .before .before .before .args .variables .now) (c .before .before .before .before .before .before .before .before .before .before .before .before .before .before .before .before .before .before .before .before .before .before .before .before .before .before .args .literals .now) (c .before .before .before .before .before .before .before .before .before .before .before .before .before .before .before .before .before .before .before .before .before .before .before .before .before .before .args .cursor) (c .before .before .before .before .before .before .before .before .before .before .before .before .before .before .before .before .before .before .before .before .before .before .before .before .before .before .args .first) _ _ _ _ _ _ (c .before .before .before .before .before .before .before .before .before .before .before .before .before .before .before .before .before .before .before .before .loop .inv) _ _ _ (c .before .before .before .before .before .before .before .before .before .before .before .before .before .before .before .before .before .literal-at .ensures) (c .before .before .before .before .before .before .before .before .before .before .if1 .left) (c .before .before .before .before .before .before .before .before .before .before .before .before .before .before .before .before .before .before .before .before .before .before .before .before .before .before .pre .long) (c .before .before .before .before .before .before .before .put-literal .ensures .0) _ (c .before .before .before .before .before .before .before .put-literal .ensures .1) _ (c .before .before .before .before .separator-at .ensures) (search (needs, c .before .before .before .before .before .before .before .before .before .before .before .before .before .before .before .before .before .before .before .before .loop .inv .names-long)) (search (needs, c .before .before .before .before .before .before .before .before .before .before .before .before .before .before .before .before .before .before .before .before .loop .inv .long)) (c .before .if2 .left) (c .if3 .left)
+loop-again c = going-on (c .before .before .before .before .before .before .before .before .before .before .before .before .before .before .before .before .before .before .before .before .before .before .before .before .before .args .program .now) (c .before .before .before .before .before .before .before .before .before .before .before .before .before .before .before .before .before .before .before .before .before .before .before .before .before .args .output .now) (c .before .before .before .before .before .before .before .before .before .before .before .before .before .before .before .before .before .before .before .before .before .before .before .before .before .args .names .now) (c .before .before .before .before .before .before .before .before .before .before .before .before .before .before .before .before .before .before .before .before .before .before .before .before .before .args .variables .now) (c .before .before .before .before .before .before .before .before .before .before .before .before .before .before .before .before .before .before .before .before .before .before .before .before .before .args .literals .now) (c .before .before .before .before .before .before .before .before .before .before .before .before .before .before .before .before .before .before .before .before .before .before .before .before .before .args .cursor) (c .before .before .before .before .before .before .before .before .before .before .before .before .before .before .before .before .before .before .before .before .before .before .before .before .before .args .first) _ _ _ _ _ _ (c .before .before .before .before .before .before .before .before .before .before .before .before .before .before .before .before .before .before .before .loop .inv) _ _ _ (rw (c .before .before .before .before .before .before .before .before .before .before .before .before .before .before .before .before .before .before .onward .ensures) at (c .before .before .before .before .before .before .before .before .before .before .before .before .before .before .before .literal-at .ensures)) (c .before .before .before .before .before .before .before .before .before .if1 .left) (c .before .before .before .before .before .before .before .before .before .before .before .before .before .before .before .before .before .before .before .before .before .before .before .before .before .pre .long) (c .before .before .before .before .before .before .put-literal .ensures .0) _ (c .before .before .before .before .before .before .put-literal .ensures .1) _ (c .before .before .before .separator-at .ensures) (search (needs, c .before .before .before .before .before .before .before .before .before .before .before .before .before .before .before .before .before .before .before .loop .inv .names-long)) (search (needs, c .before .before .before .before .before .before .before .before .before .before .before .before .before .before .before .before .before .before .before .loop .inv .long)) (c .before .if2 .left) (c .if3 .left)
 
 pub body-at-spec : {M : Type 1} → statement M
 body-at-spec =
@@ -122,6 +129,7 @@ body-at-spec =
     Inv-loop
     μ-loop
     loop-holds
+    (λ c κs. search needs)
     literal-at-requires
     (λ c κs. search needs)
     same-length

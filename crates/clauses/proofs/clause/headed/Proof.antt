@@ -13,7 +13,7 @@ returns c =
 
 returns-2 : tie.Need-returns-2
 returns-2 c =
-    let if2 = c .before .before in
+    let if2 = c .before in
     let if1 = if2 .before .before in
     let token-at = if1 .before .before in
     let start = token-at .before .before .before .before .before .before in
@@ -21,18 +21,20 @@ returns-2 c =
 
 body-at-requires : tie.Need-body-at-requires
 body-at-requires c κs =
-    let if2 = c .before .before .before in
+    let onward = c .before .before .before in
+    let if2 = onward .before in
     let token-at = if2 .before .before .before .before in
     let start = token-at .before .before .before .before .before .before in
-    ready-body (start .args .program .now) (start .args .output .now) (start .args .names .now) (start .args .variables .now) (start .args .literals .now) (start .args .cursor) (start .args .first) (start .pre) _ (token-at .token-at .ensures) (if2 .if2 .left)
+    rw (onward .onward .ensures) (ready-body (start .args .program .now) (start .args .output .now) (start .args .names .now) (start .args .variables .now) (start .args .literals .now) (start .args .cursor) (start .args .first) (start .pre) _ (token-at .token-at .ensures) (if2 .if2 .left))
 
 returns-3 : tie.Need-returns-3
 returns-3 c =
     let body-at = c .before .before .before .before .before .before in
-    let if2 = body-at .before .before .before .before in
+    let onward = body-at .before .before .before .before in
+    let if2 = onward .before in
     let token-at = if2 .before .before .before .before in
     let start = token-at .before .before .before .before .before .before in
-    headed-body (start .args .program .now) (start .args .output .now) (start .args .names .now) (start .args .variables .now) (start .args .literals .now) (start .args .cursor) (start .args .first) (start .pre) _ (token-at .token-at .ensures) (if2 .if2 .left) _ _ _ _ (body-at .body-at .ensures)
+    headed-body (start .args .program .now) (start .args .output .now) (start .args .names .now) (start .args .variables .now) (start .args .literals .now) (start .args .cursor) (start .args .first) (start .pre) _ (token-at .token-at .ensures) (if2 .if2 .left) _ _ _ _ (rw (onward .onward .ensures) at (body-at .body-at .ensures))
 
 pub headed-spec : {M : Type 1} → statement M
 headed-spec =
@@ -43,6 +45,7 @@ headed-spec =
     returns
     (λ c κs. search needs)
     returns-2
+    (λ c κs. search needs)
     body-at-requires
     (λ c. search needs)
     (λ c. search needs)

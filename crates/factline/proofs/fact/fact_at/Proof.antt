@@ -1,8 +1,7 @@
 -- `fact::fact_at` meets its contract. Assumes nothing.
-use mathlib.Core.Path.{refl}
 use mathlib.Core.Bool.{true}
 use Rattle.atoms.proofs.AtomLaws.{ready-head}
-use Rattle.factline.proofs.FactLaws.{fact-ended, fact-if, fact-stops, fact-wrong, fact-goes}
+use Rattle.factline.proofs.FactLaws.{atom-on-line, fact-ended, fact-if, fact-stops, fact-wrong, fact-goes}
 use borrow.Author.Needs.{needs}
 use Rattle.factline.proofs.fact.fact_at.Statement.{statement}
 use Rattle.factline.proofs.fact.fact_at.Tie as tie
@@ -10,59 +9,58 @@ use Rattle.factline.proofs.fact.fact_at.Tie as tie
 returns : tie.Need-returns
 returns c =
     let if1 = c .before in
-    let token-at = if1 .before .before .before in
+    let token-at = if1 .before .before in
     let start = token-at .before .before .before .before .before .before in
-    fact-ended (start .args .program .now) (start .args .output .now) (start .args .text .now) (start .args .names .now) (start .args .variables .now) (start .args .base) (start .args .at) (start .args .over) _ (token-at .token-at .ensures) _ (if1 .if1 .taken) (c .without .ensures)
+    fact-ended (start .args .program .now) (start .args .output .now) (start .args .text .now) (start .args .names .now) (start .args .variables .now) (start .args .cursor .base) (start .args .cursor .at) (start .args .cursor .over) _ (token-at .token-at .ensures) _ (if1 .if1 .taken) (c .without .ensures)
 
 returns-2 : tie.Need-returns-2
 returns-2 c =
     let if2 = c .before in
-    let token-at = if2 .before .before .before .before .before in
+    let token-at = if2 .before .before .before .before in
     let start = token-at .before .before .before .before .before .before in
-    fact-if (start .args .program .now) (start .args .output .now) (start .args .text .now) (start .args .names .now) (start .args .variables .now) (start .args .base) (start .args .at) (start .args .over) _ (token-at .token-at .ensures) _ _ (if2 .if2 .taken) (c .without2 .ensures)
+    fact-if (start .args .program .now) (start .args .output .now) (start .args .text .now) (start .args .names .now) (start .args .variables .now) (start .args .cursor .base) (start .args .cursor .at) (start .args .cursor .over) _ (token-at .token-at .ensures) _ _ (if2 .if2 .taken) (c .without2 .ensures)
 
 atom-at-requires : tie.Need-atom-at-requires
 atom-at-requires c κs =
     let if2 = c .before .before in
     let if1 = if2 .before .before in
-    let token-at = if1 .before .before .before in
+    let token-at = if1 .before .before in
     let start = token-at .before .before .before .before .before .before in
-    let p = start .pre in
-    ready-head (start .args .program .now) (start .args .output .now) (start .args .text .now) (start .args .names .now) (start .args .variables .now) _ (record { source = p .source; short = p .short; inside = p .inside; room = p .room; few = p .few; long = p .long }) true refl _ (token-at .token-at .ensures) (if2 .if2 .left) (if1 .if1 .left)
+    ready-head (start .args .program .now) (start .args .output .now) (start .args .text .now) (start .args .names .now) (start .args .variables .now) (start .args .cursor) (start .pre .ready) true (start .pre .on-line) _ (token-at .token-at .ensures) (if2 .if2 .left) (if1 .if1 .left)
 
 returns-3 : tie.Need-returns-3
 returns-3 c =
-    let if3 = c .before .before in
-    let atom-at = if3 .before .before .before .before .before .before .before in
+    let if3 = c .before in
+    let atom-at = if3 .before .before .before .before .before .before in
     let if2 = atom-at .before .before .before in
     let if1 = if2 .before .before in
-    let token-at = if1 .before .before .before in
+    let token-at = if1 .before .before in
     let start = token-at .before .before .before .before .before .before in
-    fact-stops (start .args .program .now) (start .args .output .now) (start .args .text .now) (start .args .names .now) (start .args .variables .now) (start .args .base) (start .args .at) (start .args .over) _ (token-at .token-at .ensures) _ (if2 .if2 .left) (if1 .if1 .left) (atom-at .atom-at .result) _ _ (atom-at .atom-at .ensures) (if3 .if3 .taken) (c .without3 .ensures)
+    fact-stops (start .args .program .now) (start .args .output .now) (start .args .text .now) (start .args .names .now) (start .args .variables .now) (start .args .cursor .base) (start .args .cursor .at) (start .args .cursor .over) _ (token-at .token-at .ensures) _ (if2 .if2 .left) (if1 .if1 .left) (atom-at .atom-at .result) _ _ (atom-on-line (start .args .program .now) (start .args .output .now) (start .args .text .now) (start .args .names .now) (start .args .variables .now) (start .args .cursor) (start .pre) (atom-at .atom-at .result) _ _ (atom-at .atom-at .ensures)) (if3 .if3 .taken) (c .without3 .ensures)
 
 returns-4 : tie.Need-returns-4
 returns-4 c =
-    let if4 = c .before .before in
+    let if4 = c .before in
     let token-at2 = if4 .before .before in
     let if3 = token-at2 .before .before in
-    let atom-at = if3 .before .before .before .before .before .before .before in
+    let atom-at = if3 .before .before .before .before .before .before in
     let if2 = atom-at .before .before .before in
     let if1 = if2 .before .before in
-    let token-at = if1 .before .before .before in
+    let token-at = if1 .before .before in
     let start = token-at .before .before .before .before .before .before in
-    fact-wrong (start .args .program .now) (start .args .output .now) (start .args .text .now) (start .args .names .now) (start .args .variables .now) (start .args .base) (start .args .at) (start .args .over) _ (token-at .token-at .ensures) _ (if2 .if2 .left) (if1 .if1 .left) (atom-at .atom-at .result) _ _ (atom-at .atom-at .ensures) (if3 .if3 .left) _ (token-at2 .token-at2 .ensures) (if4 .if4 .taken) (c .without4 .ensures)
+    fact-wrong (start .args .program .now) (start .args .output .now) (start .args .text .now) (start .args .names .now) (start .args .variables .now) (start .args .cursor .base) (start .args .cursor .at) (start .args .cursor .over) _ (token-at .token-at .ensures) _ (if2 .if2 .left) (if1 .if1 .left) (atom-at .atom-at .result) _ _ (atom-on-line (start .args .program .now) (start .args .output .now) (start .args .text .now) (start .args .names .now) (start .args .variables .now) (start .args .cursor) (start .pre) (atom-at .atom-at .result) _ _ (atom-at .atom-at .ensures)) (if3 .if3 .left) _ (token-at2 .token-at2 .ensures) (if4 .if4 .taken) (c .without4 .ensures)
 
 returns-5 : tie.Need-returns-5
 returns-5 c =
     let if4 = c .before in
     let token-at2 = if4 .before .before in
     let if3 = token-at2 .before .before in
-    let atom-at = if3 .before .before .before .before .before .before .before in
+    let atom-at = if3 .before .before .before .before .before .before in
     let if2 = atom-at .before .before .before in
     let if1 = if2 .before .before in
-    let token-at = if1 .before .before .before in
+    let token-at = if1 .before .before in
     let start = token-at .before .before .before .before .before .before in
-    fact-goes (start .args .program .now) (start .args .output .now) (start .args .text .now) (start .args .names .now) (start .args .variables .now) (start .args .base) (start .args .at) (start .args .over) _ (token-at .token-at .ensures) _ (if2 .if2 .left) (if1 .if1 .left) (atom-at .atom-at .result) _ _ (atom-at .atom-at .ensures) (if3 .if3 .left) _ (token-at2 .token-at2 .ensures) (if4 .if4 .left) (c .gone .ensures)
+    fact-goes (start .args .program .now) (start .args .output .now) (start .args .text .now) (start .args .names .now) (start .args .variables .now) (start .args .cursor .base) (start .args .cursor .at) (start .args .cursor .over) _ (token-at .token-at .ensures) _ (if2 .if2 .left) (if1 .if1 .left) (atom-at .atom-at .result) _ _ (atom-on-line (start .args .program .now) (start .args .output .now) (start .args .text .now) (start .args .names .now) (start .args .variables .now) (start .args .cursor) (start .pre) (atom-at .atom-at .result) _ _ (atom-at .atom-at .ensures)) (if3 .if3 .left) _ (token-at2 .token-at2 .ensures) (if4 .if4 .left) (c .gone .ensures)
 
 pub fact-at-spec : {M : Type 1} → statement M
 fact-at-spec =

@@ -24,16 +24,26 @@ loop-holds c = λ r h. h
 
 returns : tie.Need-returns Inv-loop μ-loop
 returns c =
-    let here = ltb-true _ _ (sym (c .before .before .before .before .before .has-line .ensures) ∙ c .before .before .before .before .if1 .taken) in
-    let other = sym (c .before .before .is-idle .ensures) ∙ not-true _ (c .before .if2 .taken) in
-    c .before .before .before .before .before .before .loop .inv _ (rw (c .place-from .ensures) (stop-here _ _ _ (c .before .before .before .line-from .ensures) here other))
+    let is-idle = c .before .before in
+    let line-from = is-idle .before in
+    let if1 = line-from .before in
+    let has-line = if1 .before in
+    let loop = has-line .before in
+    let here = ltb-true _ _ (sym (has-line .has-line .ensures) ∙ if1 .if1 .taken) in
+    let other = sym (is-idle .is-idle .ensures) ∙ not-true _ (c .before .if2 .taken) in
+    loop .loop .inv _ (rw (c .place-from .ensures) (stop-here _ _ _ (line-from .line-from .ensures) here other))
 
 add-next-line : tie.Need-add-next-line Inv-loop μ-loop
 add-next-line c =
-    let text = c .before .before .before .before .before .before .before .args .text .now in
-    let start = c .before .before .before .before .before .loop .start in
-    let here = ltb-true start (length text) (sym (c .before .before .before .before .has-line .ensures) ∙ c .before .before .before .if1 .taken) in
-    omega (arith, its-end-inside text (c .before .before .line-from .result .now) start (c .before .before .line-from .ensures) here)
+    let line-from = c .before .before in
+    let if1 = line-from .before in
+    let has-line = if1 .before in
+    let loop = has-line .before in
+    let at-start = loop .before .before in
+    let text = at-start .args .text .now in
+    let start = loop .loop .start in
+    let here = ltb-true start (length text) (sym (has-line .has-line .ensures) ∙ if1 .if1 .taken) in
+    omega (arith, its-end-inside text (line-from .line-from .result .now) start (line-from .line-from .ensures) here)
 
 loop-less : tie.Need-loop-less Inv-loop μ-loop
 loop-less c =
@@ -42,9 +52,14 @@ loop-less c =
 
 loop-again : tie.Need-loop-again Inv-loop μ-loop
 loop-again c =
-    let here = ltb-true _ _ (sym (c .before .before .before .before .before .has-line .ensures) ∙ c .before .before .before .before .if1 .taken) in
-    let idle = sym (c .before .before .is-idle .ensures) ∙ not-false _ (c .before .if2 .left) in
-    λ r h. c .before .before .before .before .before .before .loop .inv r (pass-on _ _ _ (c .before .before .before .line-from .ensures) here idle (rw (c .next-line .ensures) at h))
+    let is-idle = c .before .before in
+    let line-from = is-idle .before in
+    let if1 = line-from .before in
+    let has-line = if1 .before in
+    let loop = has-line .before in
+    let here = ltb-true _ _ (sym (has-line .has-line .ensures) ∙ if1 .if1 .taken) in
+    let idle = sym (is-idle .is-idle .ensures) ∙ not-false _ (c .before .if2 .left) in
+    λ r h. loop .loop .inv r (pass-on _ _ _ (line-from .line-from .ensures) here idle (rw (c .next-line .ensures) at h))
 
 returns-2 : tie.Need-returns-2 Inv-loop μ-loop
 returns-2 c = c .before .before .loop .inv _ (none-left _ _ (ltb-false _ _ (sym (c .before .has-line .ensures) ∙ c .if1 .left)))

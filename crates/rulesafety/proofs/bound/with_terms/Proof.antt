@@ -27,8 +27,10 @@ loop-holds c = let room : length (c .before .args .bound .bits) ≡ most-variabl
 
 loop-again : tie.Need-loop-again Inv-loop μ-loop
 loop-again c =
-    let a = c .before .before .before .before .before .args in
-    (omega arith, terms-on (a .literals .now) (a .at) (a .count) (c .before .before .before .loop .i) _ _ _ (c .before .before .before .before .before .pre) (omega arith) (c .before .before .before .loop .inv .1) (c .with-term .ensures))
+    let loop = c .before .before .before in
+    let start = loop .before .before in
+    let a = start .args in
+    (omega arith, terms-on (a .literals .now) (a .at) (a .count) (loop .loop .i) _ _ _ (start .pre) (omega arith) (loop .loop .inv .1) (c .with-term .ensures))
 
 returns : tie.Need-returns Inv-loop μ-loop
 returns c = let e : c .before .loop .i ≡ c .before .before .before .args .count = omega arith in rw (← e) (c .before .loop .inv .1)

@@ -17,28 +17,51 @@ returns-2 c =
 
 returns-3 : tie.Need-returns-3
 returns-3 c =
-    let a = c .before .before .before .before .before .before .before .before .args in
-    left-bound _ (a .literals .now) (a .literal) (c .before .before .before .before .before .if1 .left) (c .before .before .before .if2 .left) (sym (c .before .term-bound .ensures) ∙ c .if3 .taken)
+    let if2 = c .before .before .before in
+    let if1 = if2 .before .before in
+    let start = if1 .before .before .before in
+    let a = start .args in
+    left-bound _ (a .literals .now) (a .literal) (if1 .if1 .left) (if2 .if2 .left) (sym (c .before .term-bound .ensures) ∙ c .if3 .taken)
 
 returns-4 : tie.Need-returns-4
 returns-4 c =
-    let a = c .before .before .before .before .before .before .before .before .before .before .before .args in
-    let left = sym (c .before .before .before .before .term-bound .ensures) ∙ c .before .before .before .if3 .left in
-    right-unbound _ (a .literals .now) (a .literal) (c .before .before .before .before .before .before .before .before .if1 .left) (c .before .before .before .before .before .before .if2 .left) left (sym (c .before .term-bound2 .ensures) ∙ not-true _ (c .if4 .taken))
+    let if3 = c .before .before .before in
+    let term-bound = if3 .before in
+    let if2 = term-bound .before .before in
+    let if1 = if2 .before .before in
+    let start = if1 .before .before .before in
+    let a = start .args in
+    let left = sym (term-bound .term-bound .ensures) ∙ if3 .if3 .left in
+    right-unbound _ (a .literals .now) (a .literal) (if1 .if1 .left) (if2 .if2 .left) left (sym (c .before .term-bound2 .ensures) ∙ not-true _ (c .if4 .taken))
 
 returns-5 : tie.Need-returns-5
 returns-5 c =
-    let a = c .before .before .before .before .before .before .before .before .before .before .before .before .before .args in
-    let left = sym (c .before .before .before .before .before .before .term-bound .ensures) ∙ c .before .before .before .before .before .if3 .left in
-    let right = sym (c .before .before .before .term-bound2 .ensures) ∙ not-false _ (c .before .before .if4 .left) in
-    right-plain _ (a .literals .now) (a .literal) (c .before .before .before .before .before .before .before .before .before .before .if1 .left) (c .before .before .before .before .before .before .before .before .if2 .left) left right (c .if5 .taken)
+    let if4 = c .before .before in
+    let term-bound2 = if4 .before in
+    let if3 = term-bound2 .before .before in
+    let term-bound = if3 .before in
+    let if2 = term-bound .before .before in
+    let if1 = if2 .before .before in
+    let start = if1 .before .before .before in
+    let a = start .args in
+    let left = sym (term-bound .term-bound .ensures) ∙ if3 .if3 .left in
+    let right = sym (term-bound2 .term-bound2 .ensures) ∙ not-false _ (if4 .if4 .left) in
+    right-plain _ (a .literals .now) (a .literal) (if1 .if1 .left) (if2 .if2 .left) left right (c .if5 .taken)
 
 returns-6 : tie.Need-returns-6
 returns-6 c =
-    let a = c .before .before .before .before .before .before .before .before .before .before .before .before .before .before .before .args in
-    let left = sym (c .before .before .before .before .before .before .before .before .term-bound .ensures) ∙ c .before .before .before .before .before .before .before .if3 .left in
-    let right = sym (c .before .before .before .before .before .term-bound2 .ensures) ∙ not-false _ (c .before .before .before .before .if4 .left) in
-    right-computed _ (a .literals .now) (a .literal) (c .before .before .before .before .before .before .before .before .before .before .before .before .if1 .left) (c .before .before .before .before .before .before .before .before .before .before .if2 .left) left right (c .before .before .if5 .left) _ (c .term-bound3 .ensures)
+    let if5 = c .before .before in
+    let if4 = if5 .before .before in
+    let term-bound2 = if4 .before in
+    let if3 = term-bound2 .before .before in
+    let term-bound = if3 .before in
+    let if2 = term-bound .before .before in
+    let if1 = if2 .before .before in
+    let start = if1 .before .before .before in
+    let a = start .args in
+    let left = sym (term-bound .term-bound .ensures) ∙ if3 .if3 .left in
+    let right = sym (term-bound2 .term-bound2 .ensures) ∙ not-false _ (if4 .if4 .left) in
+    right-computed _ (a .literals .now) (a .literal) (if1 .if1 .left) (if2 .if2 .left) left right (if5 .if5 .left) _ (c .term-bound3 .ensures)
 
 pub gains-spec : {M : Type 1} → statement M
 gains-spec =

@@ -7,8 +7,13 @@ use Rattle.rulesafety.proofs.rule_row.put_rule_row.Tie as tie
 
 returns : tie.Need-returns
 returns c =
-    let a = c .before .before .before .before .before .before .before .before .before .before .before .args in
-    row-stored (a .literals .now) (a .number) (a .head) (a .first) (a .count) _ (c .before .before .before .before .before .before .before .before .scan-of .ensures) _ refl (c .before .before .before .before .before .before .has-operation .ensures) refl (c .before .before .before .before .before .before .before .positives-of .ensures) _ _ (c .before .before .before .put-numbers .ensures)
+    let put-numbers = c .before .before .before in
+    let has-operation = put-numbers .before .before .before in
+    let positives-of = has-operation .before in
+    let scan-of = positives-of .before in
+    let start = scan-of .before .before .before in
+    let a = start .args in
+    row-stored (a .literals .now) (a .number) (a .head) (a .first) (a .count) _ (scan-of .scan-of .ensures) _ refl (has-operation .has-operation .ensures) refl (positives-of .positives-of .ensures) _ _ (put-numbers .put-numbers .ensures)
 
 pub put-rule-row-spec : {M : Type 1} → statement M
 put-rule-row-spec =

@@ -20,27 +20,39 @@ loop-holds c =
 
 returns : tie.Need-returns Inv-loop μ-loop
 returns c =
-    let a = c .before .before .before .before .before .before .before .before .args in
-    going-stop (a .literals .now) (a .first) (a .count) (c .before .before .before .before .before .before .before .before .pre .1) _ (c .before .before .before .before .loop .inv) _ (c .before .first-gain .ensures) (c .if2 .taken)
+    let loop = c .before .before .before .before in
+    let start = loop .before .before .before .before in
+    let a = start .args in
+    going-stop (a .literals .now) (a .first) (a .count) (start .pre .1) _ (loop .loop .inv) _ (c .before .first-gain .ensures) (c .if2 .taken)
 
 with-equation-requires : tie.Need-with-equation-requires Inv-loop μ-loop
 with-equation-requires c κs =
-    let a = c .before .before .before .before .before .before .before .before .before .args in
-    let few = c .before .before .before .before .before .before .before .before .before .pre .1 in
-    (omega arith, gain-low (a .literals .now) (a .first) (a .count) few _ (c .before .before .before .before .before .loop .inv) _ (c .before .before .first-gain .ensures) (c .before .if2 .left))
+    let first-gain = c .before .before in
+    let loop = first-gain .before .before .before in
+    let start = loop .before .before .before .before in
+    let a = start .args in
+    let few = start .pre .1 in
+    (omega arith, gain-low (a .literals .now) (a .first) (a .count) few _ (loop .loop .inv) _ (first-gain .first-gain .ensures) (c .before .if2 .left))
 
 loop-less : tie.Need-loop-less Inv-loop μ-loop
 loop-less c = rw (c .with-equation .ensures) (omega arith)
 
 loop-again : tie.Need-loop-again Inv-loop μ-loop
 loop-again c =
-    let a = c .before .before .before .before .before .before .before .before .before .before .args in
-    going-on (a .literals .now) (a .first) (a .count) (c .before .before .before .before .before .before .before .before .before .before .pre .1) _ (c .before .before .before .before .before .before .loop .inv) _ (c .before .before .before .first-gain .ensures) (c .before .before .if2 .left) (c .before .before .before .before .if1 .taken) _ (c .with-equation .ensures)
+    let if2 = c .before .before in
+    let first-gain = if2 .before in
+    let if1 = first-gain .before in
+    let loop = if1 .before .before in
+    let start = loop .before .before .before .before in
+    let a = start .args in
+    going-on (a .literals .now) (a .first) (a .count) (start .pre .1) _ (loop .loop .inv) _ (first-gain .first-gain .ensures) (if2 .if2 .left) (if1 .if1 .taken) _ (c .with-equation .ensures)
 
 returns-2 : tie.Need-returns-2 Inv-loop μ-loop
 returns-2 c =
-    let a = c .before .before .before .before .before .before .args in
-    going-full (a .literals .now) (a .first) (a .count) (c .before .before .before .before .before .before .pre .1) _ (c .before .before .loop .inv) (c .if1 .left)
+    let loop = c .before .before in
+    let start = loop .before .before .before .before in
+    let a = start .args in
+    going-full (a .literals .now) (a .first) (a .count) (start .pre .1) _ (loop .loop .inv) (c .if1 .left)
 
 pub scan-of-spec : {M : Type 1} → statement M
 scan-of-spec =

@@ -22,8 +22,10 @@ loop-holds c = λ x h. absurd (not-suc-le-zero h)
 returns : tie.Need-returns Inv-loop μ-loop
 unfolding bitsOf
 returns c =
-    let a = c .before .before .before .before .before .before .args in
-    unbound-here _ (c .before .before .before .before .loop .number) (c .before .before .before .before .loop .inv) (a .variables .now) (a .count) (omega arith) (not-true _ (c .before .if1 .taken)) _ (c .place-in .ensures)
+    let loop = c .before .before .before .before in
+    let start = loop .before .before in
+    let a = start .args in
+    unbound-here _ (loop .loop .number) (loop .loop .inv) (a .variables .now) (a .count) (omega arith) (not-true _ (c .before .if1 .taken)) _ (c .place-in .ensures)
 
 loop-again : tie.Need-loop-again Inv-loop μ-loop
 unfolding bitsOf

@@ -26,8 +26,12 @@ loop-holds c = refl
 
 returns-2 : tie.Need-returns-2 Inv-loop μ-loop
 returns-2 c =
-    rw (not-false (c .before .before .before .before .before .before .args .program) (c .before .before .before .before .if1 .left))
-    (gap-stop true _ _ _ (c .before .before .run-end2 .ensures) (sym (c .before .starts-comment .ensures) ∙ not-true _ (c .if2 .taken)) ∙ sym (c .before .before .before .loop .inv))
+    let run-end2 = c .before .before in
+    let loop = run-end2 .before in
+    let if1 = loop .before in
+    let start = if1 .before .before in
+    rw (not-false (start .args .program) (if1 .if1 .left))
+    (gap-stop true _ _ _ (run-end2 .run-end2 .ensures) (sym (c .before .starts-comment .ensures) ∙ not-true _ (c .if2 .taken)) ∙ sym (loop .loop .inv))
 
 loop-less : tie.Need-loop-less Inv-loop μ-loop
 loop-less c =

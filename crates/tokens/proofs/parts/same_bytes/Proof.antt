@@ -23,10 +23,16 @@ returns : tie.Need-returns Inv-loop μ-loop
 returns c = sym (c .before .before .loop .inv .1 .1 ∙ same-longer (c .before .before .before .args .a .now) (c .before .before .before .args .b .now) (c .before .before .loop .i) (omega arith) (c .if1 .taken))
 
 returns-2 : tie.Need-returns-2 Inv-loop μ-loop
-returns-2 c = sym (c .before .before .before .before .before .loop .inv .1 .1 ∙ same-differs (c .before .before .before .before .before .before .args .a .now) (c .before .before .before .before .before .before .args .b .now) (c .before .before .before .before .before .loop .i) (omega arith) (omega arith) (c .if2 .taken))
+returns-2 c =
+    let loop = c .before .before .before .before .before in
+    let start = loop .before in
+    sym (loop .loop .inv .1 .1 ∙ same-differs (start .args .a .now) (start .args .b .now) (loop .loop .i) (omega arith) (omega arith) (c .if2 .taken))
 
 loop-again : tie.Need-loop-again Inv-loop μ-loop
-loop-again c = (omega arith, (omega arith, c .before .before .before .before .before .loop .inv .1 .1 ∙ same-on (c .before .before .before .before .before .before .args .a .now) (c .before .before .before .before .before .before .args .b .now) (c .before .before .before .before .before .loop .i) (omega arith) (omega arith) (c .if2 .left)))
+loop-again c =
+    let loop = c .before .before .before .before .before in
+    let start = loop .before in
+    (omega arith, (omega arith, loop .loop .inv .1 .1 ∙ same-on (start .args .a .now) (start .args .b .now) (loop .loop .i) (omega arith) (omega arith) (c .if2 .left)))
 
 returns-3 : tie.Need-returns-3 Inv-loop μ-loop
 returns-3 c = sym (c .before .loop .inv .1 .1 ∙ same-end (c .before .before .args .a .now) (c .before .before .args .b .now) (c .before .loop .i) (omega arith) (c .before .loop .inv .1 .0))

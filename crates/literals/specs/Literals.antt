@@ -1,0 +1,34 @@
+-- Literals as rows: what the functions that read them promise.
+use mathlib.Core.Path.{_≡_}
+use mathlib.Core.Bool.{false}
+use mathlib.Core.List.{List, _∷_}
+use Prim.Native.Nat.{ℕ}
+use Rattle.tokens.specs.Places.{places-in}
+use Rattle.meaning.specs.Rules.{Bytes}
+use Rattle.tables.specs.Rows.{no-operation}
+use Rattle.syntax.specs.declared.token.TokenRead.{TokenRead}
+use Rattle.syntax.specs.Text.{tokenRead}
+use Rattle.syntax.specs.Fills.{Fills}
+use Rattle.syntax.specs.Literals.{literal-in-body, minus-literal-in}
+use Rattle.terms.specs.declared.cursor.Cursor.{Cursor}
+use Rattle.terms.specs.Cursors.{met-before}
+use Rattle.atoms.specs.declared.atom.AtomRead.{AtomRead}
+use Rattle.literals.specs.declared.builtin.LiteralRead.{LiteralRead}
+use Rattle.literals.specs.Builtins.{ReadyBehind, LiteralStands}
+
+abbrev pub ReadsLiteral : Bytes → Bytes → List ℕ → List ℕ → Cursor → LiteralRead → List ℕ → List ℕ → Type 0
+ReadsLiteral program output names variables k r names′ variables′ = Fills (literal-in-body (k .over)) (k .over) program (k .at) (met-before variables k) (r .progress) (places-in variables′ (r .met)) (LiteralStands program output names (k .at) r names′)
+
+abbrev pub ReadsMinusLiteral : Bytes → Bytes → List ℕ → List ℕ → Cursor → LiteralRead → List ℕ → List ℕ → Type 0
+ReadsMinusLiteral program output names variables k r names′ variables′ = Fills minus-literal-in false program (k .at) (met-before variables k) (r .progress) (places-in variables′ (r .met)) (LiteralStands program output names (k .at) r names′)
+
+-- the cursor stands at a name
+pub record ReadyToken (program output : Bytes) (names variables : List ℕ) (k : Cursor) (t : TokenRead) : Type 0 where
+  pub ready : ReadyBehind program output names variables k
+  pub is-token : t ≡ tokenRead false program (k .at)
+  pub is-name : t .kind ≡ 0
+
+-- ---- what a part of it answers
+
+abbrev pub atomLiteral : ℕ → AtomRead → LiteralRead
+atomLiteral sort a = record { progress = a .progress; row = sort ∷ a .codes .predicate ∷ 0 ∷ no-operation ∷ a .codes .terms; met = a .met }

@@ -1,0 +1,3 @@
+// Terms, read as numbers where a cursor stands: a name's, a number's or a variable's code.
+pub mod cursor;
+pub mod term;
