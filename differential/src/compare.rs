@@ -2,6 +2,7 @@
 
 use std::collections::BTreeMap;
 use std::io::{self, Write};
+use std::thread;
 
 use crate::batch;
 use crate::frames::{self, Case};
@@ -27,13 +28,30 @@ pub fn generated(seed: u64, count: u64) -> Vec<Case> {
 /// Runs generated cases through the command; whether every answer is the same.
 pub fn run_generated(command: &[String], seed: u64, count: u64) -> io::Result<bool> {
     let cases = generated(seed, count);
-    let mut input = batch::input(&cases);
-    input.extend_from_slice(batch::bad_frame(seed));
     let mut wanted: Vec<Vec<u8>> = cases.iter().map(honest).collect();
     print_kinds(&wanted)?;
     wanted.push(batch::BAD_FRAME.to_vec());
-    let written = batch::run(command, input)?;
+    let written = all_written(command, &cases, batch::bad_frame(seed))?;
     report(command, &cases, &wanted, &batch::answers(&written))
+}
+
+/// What the command writes for cases and for a last frame: a share of them in each run, as many runs at a time as there are processors.
+fn all_written(command: &[String], cases: &[Case], last: &[u8]) -> io::Result<Vec<u8>> {
+    let runs = thread::available_parallelism().map_or(1, usize::from);
+    let share = cases.len().div_ceil(runs).max(1);
+    let mut inputs: Vec<Vec<u8>> = cases.chunks(share).map(batch::input).collect();
+    match inputs.last_mut() {
+        Some(input) => input.extend_from_slice(last),
+        None => inputs.push(last.to_vec()),
+    }
+    thread::scope(|scope| {
+        let runs: Vec<_> = inputs.into_iter().map(|input| scope.spawn(|| batch::run(command, input))).collect();
+        let mut written = Vec::new();
+        for run in runs {
+            written.extend(run.join().unwrap_or_else(|_| Err(io::Error::other("a run failed")))?);
+        }
+        Ok(written)
+    })
 }
 
 /// Runs the cases of a file through the command and shows both answers to each.

@@ -19,7 +19,7 @@ use Rattle.grammar.specs.Trees.{Sequence, empty, _then_, count, Atom as AtomTre
 use Rattle.grammar.specs.Spelling.{inside, literal, with-commas, spell-nth-literal}
 use Rattle.grammar.specs.Variables.{Variables as Names, meet-symbol, meet, met}
 use Rattle.grammar.specs.Abstraction.{literal-for, literals-for}
-use Rattle.grammar.specs.Sizes.{too-big, too-long, too-many, is-underscore, too-many-variables, language}
+use Rattle.grammar.specs.Sizes.{too-big, too-long, too-many, is-underscore, too-many-variables, language, most-literals}
 use Rattle.grammar.specs.States.{BodyContext, head-behind, literal-in, atom-wanted}
 use Rattle.grammar.specs.Moves.{symbol-number, token-number, when, fire, either, try}
 use Rattle.grammar.specs.Machine.{new-body, with-rule, after-literal}
@@ -29,7 +29,7 @@ use Rattle.codes.specs.Related.{Pairwise, end, pair}
 use Rattle.codes.proofs.Pairwise.{pairwise-more, pairwise-append}
 use Rattle.names.specs.Table.{names-of}
 use Rattle.tables.specs.Rows as tables
-use Rattle.tables.specs.Layout.{literal-stride, most-literals}
+use Rattle.tables.specs.Layout.{literal-stride}
 use Rattle.tables.specs.Stored.{with-row, Kept, row-at}
 use Rattle.tables.specs.Coded.{CodedLiteral, BodyCoded}
 use Rattle.tables.proofs.Stored.{put-kept-of, put-part-of, kept-self, kept-then, kept-wider, kept-part}

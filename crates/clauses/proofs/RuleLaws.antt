@@ -18,7 +18,7 @@ use Rattle.grammar.specs.Trees.{empty, _then_, count, bare, Atom as AtomTree, R
 use Rattle.grammar.specs.Spelling.{inside, rule}
 use Rattle.grammar.specs.Variables.{meet-symbol, meet}
 use Rattle.grammar.specs.Abstraction.{atom-for, literals-for, rule-for}
-use Rattle.grammar.specs.Sizes.{too-big, too-long, too-many, is-underscore, too-many-variables, language}
+use Rattle.grammar.specs.Sizes.{too-big, too-long, too-many, is-underscore, too-many-variables, language, most-literals}
 use Rattle.grammar.specs.States.{head-behind, literal-in, atom-wanted, closed, atom-mark}
 use Rattle.grammar.specs.Moves.{free-moves, symbol-number, token-number, when, fire, either, try}
 use Rattle.grammar.specs.Machine.{new-body, after-atom, else-wanted, moves, finished-atom, finished}
@@ -29,7 +29,7 @@ use Rattle.codes.specs.Predicates.{CodedName}
 use Rattle.names.specs.Table.{names-of}
 use Rattle.tables.specs.Rows as tables
 use Rattle.tables.specs.Rows.{no-operation, no-literal, atom-with, atom-at, head-at}
-use Rattle.tables.specs.Layout.{literal-stride, rule-rows, most-literals}
+use Rattle.tables.specs.Layout.{literal-stride, rule-rows}
 use Rattle.tables.specs.Stored.{with-row, Kept, row-at}
 use Rattle.tables.specs.Coded.{HeadCoded}
 use Rattle.tables.proofs.Stored.{put-kept-of, put-part-of, kept-self, kept-then, kept-wider, kept-part}

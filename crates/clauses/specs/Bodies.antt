@@ -15,7 +15,8 @@ use Rattle.grammar.specs.Variables.{met}
 use Rattle.grammar.specs.Abstraction.{literals-for}
 use Rattle.grammar.specs.States.{literal-in, atom-wanted}
 use Rattle.grammar.specs.Machine.{new-body}
-use Rattle.tables.specs.Layout.{literal-stride, most-literals}
+use Rattle.grammar.specs.Sizes.{most-literals}
+use Rattle.tables.specs.Layout.{literal-stride}
 use Rattle.tables.specs.Rows.{no-literal}
 use Rattle.tables.specs.Stored.{Kept}
 use Rattle.tables.specs.Coded.{BodyCoded}

@@ -15,7 +15,8 @@ use Rattle.grammar.specs.Spelling.{inside as unmarked, spell-atom}
 use Rattle.grammar.specs.Variables.{met}
 use Rattle.grammar.specs.Abstraction.{atom-for, rule-for}
 use Rattle.grammar.specs.States.{head-behind, closed}
-use Rattle.tables.specs.Layout.{literal-stride, rule-rows, most-literals}
+use Rattle.grammar.specs.Sizes.{most-literals}
+use Rattle.tables.specs.Layout.{literal-stride, rule-rows}
 use Rattle.tables.specs.Stored.{Kept}
 use Rattle.tables.specs.Rows.{no-literal}
 use Rattle.tables.specs.Coded.{HeadCoded, BodyCoded}

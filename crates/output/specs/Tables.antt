@@ -8,6 +8,7 @@ use Rattle.tokens.specs.declared.Place.{Place}
 use Rattle.tokens.specs.Sizes.{most-text}
 use Rattle.meaning.specs.Rules.{Bytes}
 use Rattle.grammar.specs.Trees.{Program}
+use Rattle.grammar.specs.Sizes.{most-rules}
 use Rattle.stages.specs.Stage.{on, Stage}
 use Rattle.rows.specs.Growth.{Room}
 use Rattle.factline.specs.Lines.{Filled}
@@ -30,9 +31,9 @@ tables names facts predicates starts lengths = record { names = names; facts = f
 pub record Lent (program output : Bytes) (t : OutputTables) : Type 0 where
   pub room : length output ≤ most-text → Room program output (t .names) (length output)
   pub facts-long : 9_216 ≤ length (t .facts)
-  pub predicates-long : 1_024 ≤ length (t .predicates)
-  pub starts-long : 1_024 ≤ length (t .starts)
-  pub lengths-long : 1_024 ≤ length (t .lengths)
+  pub predicates-long : most-rules true ≤ length (t .predicates)
+  pub starts-long : most-rules true ≤ length (t .starts)
+  pub lengths-long : most-rules true ≤ length (t .lengths)
 
 -- the tables after hold these facts of a line, n of them
 abbrev pub FactsHeld : (program output : Bytes) → Place → Program true → OutputTables → ℕ → OutputTables → Type 0

@@ -10,7 +10,8 @@ use Rattle.meaning.specs.Matchings.{Values, side?}
 use Rattle.meaning.specs.Matcher.{set-to, complete}
 use Rattle.meaning.specs.Quick.{literal-overflows}
 use Rattle.codes.specs.Domains.{codes, code-in-range}
-use Rattle.tables.specs.Layout.{terms-column, most-literals, equations-column}
+use Rattle.grammar.specs.Sizes.{most-literals}
+use Rattle.tables.specs.Layout.{terms-column, equations-column}
 use Rattle.tables.specs.Rows.{literal-column, side-at, rule-at, rule-column, equation-places}
 use Rattle.tables.specs.WellFormed.{EquationRow}
 use Rattle.derived_set.specs.Members.{bit}

@@ -13,7 +13,8 @@ use Rattle.meaning.specs.Values.{Value}
 use Rattle.grammar.specs.Trees.{Rule as Tree}
 use Rattle.grammar.specs.Abstraction.{rule-for}
 use Rattle.names.specs.Table.{names-of}
-use Rattle.tables.specs.Layout.{rule-rows, most-literals}
+use Rattle.grammar.specs.Sizes.{most-literals}
+use Rattle.tables.specs.Layout.{rule-rows}
 use Rattle.tables.specs.Coded.{HeadCoded}
 use Rattle.clauses.specs.declared.clause.RuleRead.{RuleRead}
 use Rattle.clauses.specs.Clauses.{RuleStands, FillsRule}

@@ -19,7 +19,8 @@ use Rattle.codes.specs.Codes.{Coded}
 use Rattle.codes.specs.Predicates.{CodedName}
 use Rattle.codes.specs.Related.{RelatedRule}
 use Rattle.names.specs.Table.{names-of}
-use Rattle.tables.specs.Layout.{literal-stride, rule-stride, rule-rows, most-literals, head-literal-column, first-literal-column, literals-column, equations-column, positives-column}
+use Rattle.grammar.specs.Sizes.{most-literals}
+use Rattle.tables.specs.Layout.{literal-stride, rule-stride, rule-rows, head-literal-column, first-literal-column, literals-column, equations-column, positives-column}
 use Rattle.tables.specs.Rows.{no-literal, rule-column, equation-places, positive-places, rule-at}
 use Rattle.tables.specs.WellFormed.{RuleRow}
 use Rattle.tables.specs.Stored.{Kept}

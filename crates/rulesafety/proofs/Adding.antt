@@ -15,7 +15,8 @@ use Rattle.meaning.specs.Safety.{in-term, in-atom, positives, in-positives}
 use Rattle.meaning.proofs.Booleans.{or-turned}
 use Rattle.codes.specs.Codes.{no-value}
 use Rattle.codes.specs.Arithmetic.{comparison-at}
-use Rattle.tables.specs.Layout.{literal-stride, sort-column, predicate-column, comparison-column, terms-column, positive-sort, negated-sort, most-variables}
+use Rattle.grammar.specs.Sizes.{most-variables}
+use Rattle.tables.specs.Layout.{literal-stride, sort-column, predicate-column, comparison-column, terms-column, positive-sort, negated-sort}
 use Rattle.tables.specs.Rows.{from, term-of, atom-with, arity, literal-column, atom-at, side-at, literal-at}
 use Rattle.tables.proofs.Strides.{from-last}
 use Rattle.rulesafety.specs.declared.bound.Bound.{Bound}

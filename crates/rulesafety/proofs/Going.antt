@@ -14,7 +14,8 @@ use Rattle.meaning.specs.Rules.{Literal}
 use Rattle.meaning.specs.Safety.{in-positives, Equation, next-gain, with, scan, equations, bound-after, bound}
 use Rattle.meaning.proofs.Sets.{in-append}
 use Rattle.meaning.proofs.Safety.{scan-stop, scan-step}
-use Rattle.tables.specs.Layout.{terms-column, most-literals, most-variables}
+use Rattle.grammar.specs.Sizes.{most-literals, most-variables}
+use Rattle.tables.specs.Layout.{terms-column}
 use Rattle.tables.specs.Rows.{from, literal-column, literal-at, equation-at}
 use Rattle.tables.proofs.Strides.{from-length}
 use Rattle.rulesafety.specs.declared.bound.Bound.{Bound}

@@ -13,7 +13,8 @@ use borrow.Author.Tests.{eq-eqb, ne-eqb}
 use Rattle.meaning.specs.Sets.{In}
 use Rattle.meaning.specs.Rules.{Term, Atom}
 use Rattle.meaning.specs.Safety.{positives}
-use Rattle.tables.specs.Layout.{sort-column, positive-sort, negated-sort, most-literals}
+use Rattle.grammar.specs.Sizes.{most-literals}
+use Rattle.tables.specs.Layout.{sort-column, positive-sort, negated-sort}
 use Rattle.tables.specs.Rows.{from, literal-column, atom-at, literal-at}
 use Rattle.rulesafety.specs.declared.listed.Rows.{Rows}
 use Rattle.rulesafety.specs.Listed.{listed, no-rows, with-listed, Lists, positive-rows}

@@ -4,7 +4,8 @@ use mathlib.Core.List.{List, [], _∷_}
 use Prim.Native.Nat.{ℕ, _+_, _*_, _≤_, _<_}
 use native.Mathlib.Omega.{arith}
 use lib.ListN.{length, getD, take, drop}
-use Rattle.tables.specs.Layout.{most-literals, rule-stride, head-literal-column, first-literal-column, literals-column, has-operation-column, equations-column, positives-column, equation-places-column, positive-places-column}
+use Rattle.grammar.specs.Sizes.{most-literals}
+use Rattle.tables.specs.Layout.{rule-stride, head-literal-column, first-literal-column, literals-column, has-operation-column, equations-column, positives-column, equation-places-column, positive-places-column}
 use Rattle.tables.specs.Stored.{with-row, Kept}
 use Rattle.tables.proofs.Stored.{number-of-part, put-kept-of, put-part-of, kept-then, kept-wider, kept-part}
 use Rattle.rulesafety.specs.declared.rule_row.Numbers.{Numbers}

@@ -6,7 +6,8 @@ use Prim.Native.Nat.{ℕ, _+_, _*_, _≤_}
 use native.Mathlib.Omega.{arith}
 use lib.ListN.{drop}
 use lib.Seq.{take-take}
-use Rattle.tables.specs.Layout.{rule-stride, equation-places-column, positive-places-column, most-literals}
+use Rattle.grammar.specs.Sizes.{most-literals}
+use Rattle.tables.specs.Layout.{rule-stride, equation-places-column, positive-places-column}
 use Rattle.tables.specs.Rows.{equation-places, positive-places}
 use Rattle.rulesafety.specs.declared.scan.Scan.{Scan}
 use Rattle.rulesafety.specs.declared.rule_row.Numbers.{Numbers}

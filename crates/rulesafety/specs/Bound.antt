@@ -7,7 +7,8 @@ use Prim.Native.Nat.{ℕ, _+_, _*_, _≤_}
 use lib.ListN.{length, getD, set, replicate}
 use Rattle.meaning.specs.Rules.{Literal, Rule}
 use Rattle.meaning.specs.Safety.{in-positives}
-use Rattle.tables.specs.Layout.{literal-stride, most-variables}
+use Rattle.grammar.specs.Sizes.{most-variables}
+use Rattle.tables.specs.Layout.{literal-stride}
 use Rattle.tables.specs.Rows.{from, literal-at}
 use Rattle.rulesafety.specs.declared.bound.Bound.{Bound}
 

@@ -5,7 +5,8 @@ use mathlib.Core.List.{List, [], _∷_}
 use Prim.Native.Nat.{ℕ, zero, suc, _+_, _≤_}
 use lib.Dec.{eqb}
 use lib.ListN.{set, take, replicate}
-use Rattle.tables.specs.Layout.{sort-column, positive-sort, most-literals}
+use Rattle.grammar.specs.Sizes.{most-literals}
+use Rattle.tables.specs.Layout.{sort-column, positive-sort}
 use Rattle.tables.specs.Rows.{literal-column}
 use Rattle.rulesafety.specs.declared.listed.Rows.{Rows}
 

@@ -7,7 +7,8 @@ use lib.Dec.{eqb}
 use lib.ListN.{length, take, drop}
 use Rattle.meaning.specs.Sets.{In, any}
 use Rattle.meaning.specs.Safety as meaning
-use Rattle.tables.specs.Layout.{operation-column, rule-stride, head-literal-column, first-literal-column, literals-column, has-operation-column, equations-column, positives-column, equation-places-column, positive-places-column, most-literals}
+use Rattle.grammar.specs.Sizes.{most-literals}
+use Rattle.tables.specs.Layout.{operation-column, rule-stride, head-literal-column, first-literal-column, literals-column, has-operation-column, equations-column, positives-column, equation-places-column, positive-places-column}
 use Rattle.tables.specs.Rows.{from, literal-column, atom-at, no-operation, literal-at, equation-at, rule-column, equation-places, positive-places}
 use Rattle.tables.specs.WellFormed.{has-operation}
 use Rattle.tables.specs.Stored.{Kept}

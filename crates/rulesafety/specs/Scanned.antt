@@ -7,7 +7,8 @@ use lib.Dec.{eqb, ltb}
 use Rattle.meaning.specs.Sets.{In}
 use Rattle.meaning.specs.Safety as meaning
 use Rattle.codes.specs.Arithmetic.{equal-code}
-use Rattle.tables.specs.Layout.{sort-column, comparison-column, terms-column, builtin-sort, most-literals, most-variables}
+use Rattle.grammar.specs.Sizes.{most-literals, most-variables}
+use Rattle.tables.specs.Layout.{sort-column, comparison-column, terms-column, builtin-sort}
 use Rattle.tables.specs.Rows.{term-of, literal-column, side-at, equation-at}
 use Rattle.rulesafety.specs.declared.scan.Scan.{Scan}
 use Rattle.rulesafety.specs.Bound.{bitsOf, with-variable, body-at}

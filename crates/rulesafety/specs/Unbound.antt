@@ -6,7 +6,7 @@ use Prim.Native.Nat.{ℕ, _*_, _≤_, _<_}
 use lib.ListN.{getD, length}
 use Rattle.tokens.specs.declared.Place.{Place}
 use Rattle.tokens.specs.Places.{nowhere}
-use Rattle.tables.specs.Layout.{most-variables}
+use Rattle.grammar.specs.Sizes.{most-variables}
 use Rattle.rulesafety.specs.declared.unbound.Unbound.{Unbound}
 
 -- the table has a place for each variable

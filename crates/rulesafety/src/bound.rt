@@ -5,7 +5,7 @@ ghost use Prim.Native.Nat.{_+_, _≤_, _<_};
 ghost use lib.ListN.{length, take, drop};
 ghost use Rattle.meaning.specs.Sets.{any};
 ghost use Rattle.meaning.specs.Safety.{in-term, in-positives, term-bound};
-ghost use Rattle.tables.specs.Layout.{most-variables};
+ghost use Rattle.grammar.specs.Sizes.{most-variables};
 ghost use Rattle.tables.specs.Rows.{from, term-of, literal-at};
 ghost use Rattle.tables.specs.WellFormed.{Inside};
 ghost use Rattle.rulesafety.specs.Bound.{bitsOf, no-variables, with-variable, Adds, in-literal, BodyInside};

@@ -1,7 +1,7 @@
 // The scan of a body's rows: what is bound, and the equations that bind, in the order in which they do.
 ghost use mathlib.Core.Path.{_≡_};
 ghost use Prim.Native.Nat.{_≤_, _<_};
-ghost use Rattle.tables.specs.Layout.{most-literals, most-variables};
+ghost use Rattle.grammar.specs.Sizes.{most-literals, most-variables};
 ghost use Rattle.rulesafety.specs.Bound.{BodyInside};
 ghost use Rattle.rulesafety.specs.Scanned.{with-equation, Scanned};
 use crate::bound::Bound;

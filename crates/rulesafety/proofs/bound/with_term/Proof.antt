@@ -1,7 +1,7 @@
 -- `bound::with_term` meets its contract. Assumes nothing.
 use mathlib.Core.Path.{_≡_}
 use lib.ListN.{length}
-use Rattle.tables.specs.Layout.{most-variables}
+use Rattle.grammar.specs.Sizes.{most-variables}
 use Rattle.rulesafety.proofs.Adding.{value-adds, variable-adds}
 use borrow.Author.Needs.{needs}
 use Rattle.rulesafety.proofs.bound.with_term.Statement.{statement}

@@ -7,7 +7,7 @@ use native.Mathlib.Omega.{arith}
 use lib.ListN.{length, take, drop}
 use Rattle.meaning.specs.Sets.{any}
 use Rattle.meaning.specs.Safety.{in-term}
-use Rattle.tables.specs.Layout.{most-variables}
+use Rattle.grammar.specs.Sizes.{most-variables}
 use Rattle.tables.specs.Rows.{term-of}
 use Rattle.rulesafety.specs.Bound.{Adds}
 use Rattle.rulesafety.proofs.Adding.{adds-none, terms-on}

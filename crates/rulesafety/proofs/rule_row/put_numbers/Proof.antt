@@ -3,7 +3,7 @@
 use mathlib.Core.Path.{_≡_}
 use native.Mathlib.Omega.{arith}
 use lib.ListN.{length}
-use Rattle.tables.specs.Layout.{most-literals}
+use Rattle.grammar.specs.Sizes.{most-literals}
 use Rattle.rulesafety.proofs.Numbers.{numbers-stored}
 use borrow.Author.Needs.{needs}
 use Rattle.rulesafety.proofs.rule_row.put_numbers.Statement.{statement}
