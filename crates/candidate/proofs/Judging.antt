@@ -17,7 +17,7 @@ use Rattle.rule_places.specs.Sentences.{sentence}
 use Rattle.judge.specs.declared.Judgement.{Judgement}
 use Rattle.judge.specs.declared.Kind.{Kind}
 use Rattle.judge.specs.declared.Kind.the-variants.{OutOfRange, Unsatisfied, Accepted, Smaller}
-use Rattle.judge.specs.Judged.{said, Lent, NoneBehind}
+use Rattle.judge.specs.Judged.{said, Lent, SetShown}
 use Rattle.promise.specs.Answer as paper
 use Rattle.promise.specs.Judged.{Settled, settles}
 use Rattle.promise.specs.Answered.{rule-part}
@@ -50,20 +50,20 @@ module _ (text : Bytes) (P : List (Rule Value)) (I : List (Fact Value)) (old new
   abbrev Here : Answer → List ℕ → Type 0
   Here = Answers (Settled (rule-part text) P I old) old
 
-  pub told : (k : Kind) → meant.MeansOutcome values in-range P I (said k j n new) → Lent k n old new → NoneBehind k j n → (a : Answer) → Tells text j n k a → Here a new
-  unfolding said Lent NoneBehind settles paper.says
-  told OutOfRange h lent clear a leaves-range =
+  pub told : (k : Kind) → meant.MeansOutcome values in-range P I (said k j n new) → Lent k n old new → SetShown k j n → (a : Answer) → Tells text j n k a → Here a new
+  unfolding said Lent SetShown settles paper.says
+  told OutOfRange h lent shown a leaves-range =
       let stage = settled-is (rule-part text) P I old (meant.out-of-range (suc (j .rule))) h in
       let e : suc (j .rule) - 1 ≡ j .rule = omega arith in
       rw lent (refuses _ old 8 Program (sentence false text (j .rule)) (rw e at stage) a refl)
-  told Unsatisfied h lent clear a (is-broken ps f) =
+  told Unsatisfied h lent shown a (is-broken ps f) =
       let stage = settled-is (rule-part text) P I old _ h in
       let one : j .rule + 1 ≡ suc (j .rule) = add-one (j .rule) in
       let taken = from-one-taken (j .length) (j .positions) ps f in
       rw lent (hands-on _ old _ old stage a (says-as _ (cc (one, taken)) (unsatisfied-says (j .rule + 1) (positions-of j) ps (omega arith) (f .long) (f .behind))))
-  told Accepted h lent clear a is-accepted =
+  told Accepted h lent shown a is-accepted =
       let stage = settled-is (rule-part text) P I old _ h in
       hands-on _ old _ new (rw (written n old new room (lent .0) (lent .1)) at stage) a (accepted-says n (j .rounds))
-  told Smaller h lent clear a (is-smaller words bits) =
+  told Smaller h lent shown a (is-smaller words bits) =
       let stage = settled-is (rule-part text) P I old _ h in
-      rw lent (hands-on _ old _ old stage a (smaller-says (j .set) (from (holds (j .set)) n 0) (omega (arith, from-length (holds (j .set)) n 0, few)) (all-listed (holds (j .set)) n clear) words bits))
+      rw lent (hands-on _ old _ old stage a (smaller-says (j .set) (from (holds (j .set)) n 0) (omega (arith, from-length (holds (j .set)) n 0, few)) (all-listed (holds (j .set)) n (shown .none-behind)) words bits (shown .well-kept)))

@@ -54,7 +54,7 @@ module _ (program output : Bytes) (names rules literals facts links : List ℕ) 
           told program P I old new j count room (s .held .fact-table .few) (j .kind)
           (rw facts-long at answers)
           (rw facts-long at (judged .lent))
-          (rw facts-long at (judged .none-behind))
+          (rw facts-long at (judged .set-shown))
           a t
 
 -- ---- the premises of `judge`, of ranks, and of the look for comparisons

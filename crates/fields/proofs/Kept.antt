@@ -1,5 +1,5 @@
 -- The positions of a set by value are those of the atoms that it has, and decide them.
-use mathlib.Core.Path.{_≡_, refl, sym, ap, _∙_}
+use mathlib.Core.Path.{_≡_, refl, sym, ap, ap₂, _∙_}
 use mathlib.Core.Bool.{Bool, true, false}
 use mathlib.Core.List.{List, [], _∷_}
 use Prim.Native.Nat.{ℕ, zero, suc, _+_, _≤_, _<_}
@@ -7,9 +7,10 @@ use native.Mathlib.Decide.{decLt}
 use native.Mathlib.Omega.{arith}
 use native.Mathlib.Nat.{add-zero}
 use lib.ListN.{length, getD}
-use borrow.Author.Tests.{le-ltb}
-use Rattle.derived_set.specs.Members.{places, holds}
+use Rattle.derived_set.specs.Members.{places, holds, one-if, count, size}
 use Rattle.derived_set.specs.declared.Derived.{Derived}
+use Rattle.derived_set.proofs.Words.{holds-past}
+use Rattle.derived_set.proofs.Sizes.{count-same, count-first}
 use Rattle.tables.specs.Rows.{from}
 use Rattle.promise.specs.Answer.{positions}
 
@@ -49,6 +50,19 @@ as-listed f (suc n) k (b ∷ bs) short h m = go b (rw (add-zero k) at (h 0)) (as
     go true e r = rw (e, r)
     go false e r = rw (e, r)
 
+-- as many positions as places that pass the test
+how-many : (f : ℕ → Bool) (n k m : ℕ) → length (positions m (from f n k)) ≡ count (λ i. f (k + i)) n
+unfolding positions from one-if count
+how-many f zero k m = refl
+how-many f (suc n) k m =
+    let here : f (k + 0) ≡ f k = ap f (add-zero k) in
+    let next : count (λ i. f (k + suc i)) n ≡ count (λ i. f (suc k + i)) n = count-same (λ i. f (k + suc i)) (λ i. f (suc k + i)) n (λ i l. let z : k + suc i ≡ suc k + i = omega arith in ap f z) in
+    go (f k) (count-first (λ i. f (k + i)) n ∙ ap₂ _+_ (ap one-if here) (next ∙ sym (how-many f n (suc k) (suc m))))
+  where
+    go : (b : Bool) → count (λ i. f (k + i)) (suc n) ≡ one-if b + length (positions (suc m) (from f n (suc k))) → length (positions m (b ∷ from f n (suc k))) ≡ count (λ i. f (k + i)) (suc n)
+    go true e = omega (arith, e)
+    go false e = omega (arith, e)
+
 -- ---- the atoms that a list of positions has
 
 -- positions that are counted from n on are n or more
@@ -77,11 +91,7 @@ positions-decide n (false ∷ bs) (false ∷ cs) e (suc i) = positions-decide (s
 -- ---- a set by value
 
 held : (s : Derived) (i : ℕ) → holds s i ≡ getD (from (holds s) places 0) i false
-unfolding holds
-held s = all-listed (holds s) places past
-  where
-    past : (i : ℕ) → places ≤ i → holds s i ≡ false
-    past i l = rw (le-ltb i places l)
+held s = all-listed (holds s) places (holds-past s)
 
 pub kept-are : (s : Derived) (bs : List Bool) → length bs ≤ places → ((i : ℕ) → holds s i ≡ getD bs i false) → positions 1 (from (holds s) places 0) ≡ positions 1 bs
 kept-are s bs short h = as-listed (holds s) places 0 bs short (λ i. let z : 0 + i ≡ i = omega arith in rw z (h i)) 1
@@ -91,3 +101,7 @@ kept-decided s bs e i = held s i ∙ positions-decide 1 (from (holds s) places 0
 
 pub members-decided : (s t : Derived) → positions 1 (from (holds s) places 0) ≡ positions 1 (from (holds t) places 0) → (i : ℕ) → holds s i ≡ holds t i
 members-decided s t e i = kept-decided s (from (holds t) places 0) e i ∙ sym (held t i)
+
+pub kept-sized : (s : Derived) → length (positions 1 (from (holds s) places 0)) ≡ size s
+unfolding size
+kept-sized s = how-many (holds s) places 0 1 ∙ count-same (λ i. holds s (0 + i)) (holds s) places (λ i l. let z : 0 + i ≡ i = omega arith in ap (holds s) z)

@@ -1,6 +1,6 @@
 -- What `check` promises, in the words of its own type: when it refuses, when it hands on a claim, and when it gives each verdict
 -- for a program and a candidate that are read, with room and nothing out of range.
-use mathlib.Core.Path.{_≡_, refl, ap, _∙_}
+use mathlib.Core.Path.{_≡_, refl, sym, ap, _∙_}
 use mathlib.Core.Bool.{Bool, true, false}
 use mathlib.Core.Logic.{_↔_}
 use mathlib.Core.List.{List, _++_}
@@ -30,7 +30,7 @@ use Rattle.fields.specs.declared.answer.Answer.{Answer}
 use Rattle.fields.specs.Parts.{part-of}
 use Rattle.fields.specs.Answers.{fields-of, said}
 use Rattle.fields.specs.Checked.{Answers}
-use Rattle.fields.proofs.Kept.{kept-decided}
+use Rattle.fields.proofs.Kept.{kept-decided, kept-sized}
 use Rattle.fields.proofs.Said.{said-as, kind-said}
 
 module _ (the-program the-output : Bytes) (code : ℕ) (places : List ℕ) (a : Answer) (left : List ℕ) (h : Answers (Check the-program the-output code places) places a left) where
@@ -71,6 +71,12 @@ module _ (the-program the-output : Bytes) (code : ℕ) (places : List ℕ) (a : 
   -- only ACCEPTED writes
   pub unwritten : ¬ (a .kind ≡ kinds.Accepted) → left ≡ places
   unwritten f = claims.only-accepted-writes the-program the-output code places (h .answer) left (h .gives) (λ n k e. f (is kinds.Accepted (fields (paper.accepted n k)) e))
+
+  -- ---- the set by value
+
+  -- its size is how many positions the answer shows: those of SMALLER, and none with any other kind
+  pub kept-size : a .kept .size ≡ length (fields (h .answer) .kept)
+  kept-size = h .says .nothing-else .well-kept ∙ sym (kept-sized (a .kept)) ∙ ap (λ (x : Fields). length (x .kept)) (h .says .zero)
 
   -- ---- the third demand
 

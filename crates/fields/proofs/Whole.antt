@@ -8,8 +8,7 @@ use lib.ListN.{length, getD, take, length-take}
 use lib.Seq.{getD-take, ext-getD}
 use Rattle.grammar.specs.Sizes.{most-literals}
 use Rattle.stages.specs.Parts.{Part}
-use Rattle.derived_set.specs.declared.Derived.{Derived}
-use Rattle.derived_set.proofs.Words.{members-decide}
+use Rattle.derived_set.proofs.Keeping.{well-kept-decided}
 use Rattle.promise.specs.Answer.{Fields}
 use Rattle.fields.specs.declared.answer.Text.{Text}
 use Rattle.fields.specs.declared.answer.Text.the-variants.{Program, Output}
@@ -60,7 +59,6 @@ same-answer a b p q k f =
     let taken : take (a .count) (a .positions) ≡ take (b .count) (b .positions) = ap (λ (x : Fields). x .positions) f in
     let count : a .count ≡ b .count = count-decided _ _ _ _ (p .few) (q .few) (p .room) (q .room) taken in
     let here : a .positions ≡ b .positions = positions-decided _ _ _ _ (p .few) (q .few) (p .room) (q .room) taken (p .behind) (q .behind) in
-    let words : a .kept .words ≡ b .kept .words = members-decide (a .kept) (b .kept) (record { count = p .words; fit = p .bits }) (record { count = q .words; fit = q .bits }) (members-decided (a .kept) (b .kept) (ap (λ (x : Fields). x .kept) f)) in
-    let kept : _≡_ {A = Derived} (record { words = a .kept .words }) (record { words = b .kept .words }) = cc in
+    let kept : a .kept ≡ b .kept = well-kept-decided (a .kept) (b .kept) (record { count = p .words; fit = p .bits }) (record { count = q .words; fit = q .bits }) (p .well-kept) (q .well-kept) (members-decided (a .kept) (b .kept) (ap (λ (x : Fields). x .kept) f)) in
     let whole : _≡_ {A = Answer} (record { kind = a .kind; number = a .number; part = a .part; atoms = a .atoms; rounds = a .rounds; rule = a .rule; count = a .count; positions = a .positions; kept = a .kept }) (record { kind = b .kind; number = b .number; part = b .part; atoms = b .atoms; rounds = b .rounds; rule = b .rule; count = b .count; positions = b .positions; kept = b .kept }) = cc in
     whole

@@ -6,6 +6,7 @@ use Rattle.tokens.specs.declared.Place.{Place}
 use Rattle.tokens.specs.Places.{nowhere}
 use Rattle.grammar.specs.Sizes.{most-literals}
 use Rattle.derived_set.specs.declared.Derived.{Derived}
+use Rattle.derived_set.specs.Members.{no-atoms}
 use Rattle.fields.specs.declared.answer.Text.{Text}
 use Rattle.fields.specs.declared.answer.Text.the-variants.{Program}
 use Rattle.fields.specs.declared.answer.Part.{Part}
@@ -18,9 +19,6 @@ no-part = record { text = Program; place = nowhere }
 
 abbrev pub no-positions : List ℕ
 no-positions = replicate most-literals 0
-
-abbrev pub no-atoms : Derived
-no-atoms = record { words = replicate 16 0 }
 
 abbrev pub claimed : Kind → Answer
 claimed kind = record { kind = kind; number = 0; part = no-part; atoms = 0; rounds = 0; rule = 0; count = 0; positions = no-positions; kept = no-atoms }

@@ -40,7 +40,7 @@ pub struct Answer {
     pub rule: usize,
     pub count: usize,
     pub positions: [u64; MOST_LITERALS],
-    // SMALLER: the set of the atoms that are kept, by their places from 0.
+    // SMALLER: the set of the atoms that are kept, by their places from 0, and their number as its size.
     pub kept: Derived,
 }
 
@@ -48,6 +48,7 @@ pub struct Answer {
 pub fn claimed(kind: Kind) -> Answer
     ensures { λ a. ⌜ a ≡ claimed kind ⌝ }
 {
+    let kept = Derived::empty();
     Answer {
         kind,
         number: 0,
@@ -60,7 +61,7 @@ pub fn claimed(kind: Kind) -> Answer
         rule: 0,
         count: 0,
         positions: [0; MOST_LITERALS],
-        kept: Derived { words: [0; 16] },
+        kept,
     }
 }
 

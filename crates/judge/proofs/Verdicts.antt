@@ -27,7 +27,7 @@ use Rattle.tables.specs.Layout.{positives-column}
 use Rattle.tables.specs.Rows.{from, fact-at, facts-of, rule-column}
 use Rattle.tables.proofs.Strides.{from-length, from-map, from-same, every-from}
 use Rattle.derived_set.specs.declared.Derived.{Derived}
-use Rattle.derived_set.specs.Members.{places, holds, one-if, count, size}
+use Rattle.derived_set.specs.Members.{places, holds, one-if, count, size, WellKept}
 use Rattle.derived_set.proofs.Sizes.{count-most, count-all}
 use Rattle.reach.proofs.Graphs.{below-fact}
 use Rattle.store.specs.Store.{facts-in, rules-in}
@@ -37,7 +37,7 @@ use Rattle.search.specs.Searched.{stops, stopped, Stops}
 use Rattle.derivation.specs.declared.Limit.{Limit}
 use Rattle.derivation.specs.Rounds.{RoundsOf, rules-for, all-facts, Rounds}
 use Rattle.queue.proofs.Emptied.{cut-length}
-use Rattle.judge.specs.Judged.{said, Lent, NoneBehind, Judged, ShowsBroken, ShowsSet, Rejects, JudgedInRange, Copied}
+use Rattle.judge.specs.Judged.{said, Lent, SetShown, Judged, ShowsBroken, ShowsSet, Rejects, JudgedInRange, Copied}
 use Rattle.judge.specs.declared.Kind.the-variants.{OutOfRange, Unsatisfied, Accepted, Smaller}
 use Rattle.judge.specs.declared.Judgement.{Judgement}
 
@@ -114,13 +114,13 @@ module _ (names : List Bytes) (P : List (Rule ℕ)) (facts : List ℕ) (n : ℕ)
 
   -- the search for operations that leave the range decides
   pub judged-over : (rounds : List ℕ) (j : Judgement) → j .kind ≡ OutOfRange → (at : List ℕ) → overflow (codes names) code-in-range P I ≡ some (record { rule = j .rule; at = at }) → Judged names P I rounds rounds j
-  unfolding said Lent NoneBehind
-  judged-over rounds j k at o = record { says = rw (k, said) (outcome-over names P I (j .rule) (at, o)); lent = rw (k, Lent) refl; none-behind = rw (k, NoneBehind) tt }
+  unfolding said Lent SetShown
+  judged-over rounds j k at o = record { says = rw (k, said) (outcome-over names P I (j .rule) (at, o)); lent = rw (k, Lent) refl; set-shown = rw (k, SetShown) tt }
 
   -- the first broken instance does
   pub judged-broken : overflow (codes names) code-in-range P I ≡ none → (rounds : List ℕ) (j : Judgement) → ShowsBroken names P I j → Judged names P I rounds rounds j
-  unfolding said Lent NoneBehind
-  judged-broken in-range rounds j b = record { says = rw (b .is, said) (outcome-broken names P I in-range (j .rule) (take (j .length) (j .positions)) (b .first)); lent = rw (b .is, Lent) refl; none-behind = rw (b .is, NoneBehind) tt }
+  unfolding said Lent SetShown
+  judged-broken in-range rounds j b = record { says = rw (b .is, said) (outcome-broken names P I in-range (j .rule) (take (j .length) (j .positions)) (b .first)); lent = rw (b .is, Lent) refl; set-shown = rw (b .is, SetShown) tt }
 
   -- the rounds decide
   module _ (in-range : overflow (codes names) code-in-range P I ≡ none) (unbroken : broken (codes names) P I ≡ none) (table table′ : List ℕ) (set : Derived) (k : ℕ) (found : RoundsOf (codes names) P I table table′ set k) (few : n ≤ places) where
@@ -140,13 +140,13 @@ module _ (names : List Bytes) (P : List (Rule ℕ)) (facts : List ℕ) (n : ℕ)
         go false e = refl
         go true e = absurd (omega (arith, sized, count-all (holds set) n (λ a l. at-place a l ∙ every-in (levels k) I (fact-at facts a) (at-in I a (fact-at facts a) (below-fact facts n a l)) e)))
 
-    pub judged-smaller : size set < n → (rounds : List ℕ) (j : Judgement) → ShowsSet names P I set j → Judged names P I rounds rounds j
-    unfolding said Lent NoneBehind
-    judged-smaller h rounds j shows =
+    pub judged-smaller : size set < n → WellKept set → (rounds : List ℕ) (j : Judgement) → ShowsSet names P I set j → Judged names P I rounds rounds j
+    unfolding said Lent SetShown
+    judged-smaller h w rounds j shows =
         let e = shows .is in
         let s = shows .kept in
         let kept : from (holds set) (length I) 0 ≡ map (levels k) I = ap (λ (m : ℕ). from (holds set) m 0) long ∙ from-same (holds set) (λ i. levels k (fact-at facts i)) n 0 (λ i a b. at-place i (omega arith)) ∙ sym (from-map (levels k) (fact-at facts) n 0) in
-        record { says = rw (e, said, s, kept) (rw (← found .is-rounds) at (outcome-smaller names P I in-range unbroken (rw (← found .is-rounds) (not-whole h)))); lent = rw (e, Lent) refl; none-behind = rw (e, NoneBehind, s) (λ a l. found .none a l) }
+        record { says = rw (e, said, s, kept) (rw (← found .is-rounds) at (outcome-smaller names P I in-range unbroken (rw (← found .is-rounds) (not-whole h)))); lent = rw (e, Lent) refl; set-shown = rw (e, SetShown, s) (record { well-kept = w; none-behind = λ a l. found .none a l }) }
 
     module _ (h : n ≤ size set) (rounds rounds′ : List ℕ) (copied : Copied table′ rounds rounds′) (wide : length table ≡ n) (room : n ≤ length rounds) where
       abbrev round : Fact ℕ → ℕ
@@ -160,9 +160,9 @@ module _ (names : List Bytes) (P : List (Rule ℕ)) (facts : List ℕ) (n : ℕ)
           ∙ sym (from-map round (fact-at facts) n 0)
 
       pub judged-accepted : (j : Judgement) → j .kind ≡ Accepted → j .rounds ≡ k → Judged names P I rounds rounds′ j
-      unfolding said Lent NoneBehind
+      unfolding said Lent SetShown
       judged-accepted j e s =
-          record { says = rw (e, said, s, written) (rw (← found .is-rounds) at (outcome-accepted names P I in-range unbroken (rw (← found .is-rounds) (whole h)))); lent = rw (e, Lent) (copied .long, λ a g. copied .rest a (omega (arith, long, found .long))); none-behind = rw (e, NoneBehind) tt }
+          record { says = rw (e, said, s, written) (rw (← found .is-rounds) at (outcome-accepted names P I in-range unbroken (rw (← found .is-rounds) (whole h)))); lent = rw (e, Lent) (copied .long, λ a g. copied .rest a (omega (arith, long, found .long))); set-shown = rw (e, SetShown) tt }
 
 -- the table that the rounds are worked out in, as code cuts it
 pub cut-wide : (n size : ℕ) → n ≤ size → length {A = ℕ} (take (n - 0) (drop 0 (replicate size 0))) ≡ n
@@ -236,18 +236,19 @@ module _ (ranks store : List ℕ) (scan : Scan) (table table′ : List ℕ) (lim
       ]
 
   -- none was met, and a fact is not derived
-  pub judged-short : limit .broken ≡ false → size (limit .set) < scan .count → JudgedInRange ranks store (scan .count) (scan .total) rounds rounds j
+  pub judged-short : limit .broken ≡ false → limit .set .size < scan .count → JudgedInRange ranks store (scan .count) (scan .total) rounds rounds j
   judged-short b h names c in-range =
       elim (rejects names c) [
         | inl s ↦ judged-broken names (rules-for store (scan .total)) (facts-in store) (scan .count) in-range rounds j s
-        | inr s ↦ judged-smaller names (rules-for store (scan .total)) (facts-in store) (scan .count) in-range (s .unbroken) table table′ (limit .set) (limit .rounds) (found .limit names c b (s .unbroken)) few h rounds j s
+        | inr s ↦ judged-smaller names (rules-for store (scan .total)) (facts-in store) (scan .count) in-range (s .unbroken) table table′ (limit .set) (limit .rounds) (found .limit names c b (s .unbroken)) few (omega (arith, found .well-kept)) (found .well-kept) rounds j s
       ]
 
 -- ---- a candidate all of whose facts are derived
 
-module _ (ranks store : List ℕ) (n total : ℕ) (table table′ : List ℕ) (limit : Limit) (found : Rounds ranks store n total table table′ limit) (few : n ≤ places) (unmet : limit .broken ≡ false) (h : n ≤ size (limit .set)) (rounds rounds′ : List ℕ) (copied : Copied table′ rounds rounds′) (wide : length table ≡ n) (room : n ≤ length rounds) where
+module _ (ranks store : List ℕ) (n total : ℕ) (table table′ : List ℕ) (limit : Limit) (found : Rounds ranks store n total table table′ limit) (few : n ≤ places) (unmet : limit .broken ≡ false) (h : n ≤ limit .set .size) (rounds rounds′ : List ℕ) (copied : Copied table′ rounds rounds′) (wide : length table ≡ n) (room : n ≤ length rounds) where
   pub judged-whole : (j : Judgement) → j .kind ≡ Accepted → j .rounds ≡ limit .rounds → JudgedInRange ranks store n total rounds rounds′ j
   judged-whole j e s names c in-range =
+      let full : n ≤ size (limit .set) = omega (arith, found .well-kept) in
       let sized = size-below (limit .set) n few (found .only-facts names c unmet) in
       let unbroken = found .unbroken names c unmet (count-full (holds (limit .set)) n (omega (arith, sized))) in
-      judged-accepted names (rules-for store total) (facts-in store) n in-range unbroken table table′ (limit .set) (limit .rounds) (found .limit names c unmet unbroken) few h rounds rounds′ copied wide room j e s
+      judged-accepted names (rules-for store total) (facts-in store) n in-range unbroken table table′ (limit .set) (limit .rounds) (found .limit names c unmet unbroken) few full rounds rounds′ copied wide room j e s

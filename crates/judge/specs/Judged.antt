@@ -13,7 +13,7 @@ use Rattle.meaning.specs.Quick.{broken, overflow, outcome}
 use Rattle.codes.specs.Domains.{codes, code-in-range}
 use Rattle.tables.specs.Rows.{from}
 use Rattle.derived_set.specs.declared.Derived.{Derived}
-use Rattle.derived_set.specs.Members.{holds}
+use Rattle.derived_set.specs.Members.{holds, WellKept, no-atoms}
 use Rattle.matchings.specs.Tables.{Comparing}
 use Rattle.search.specs.declared.Scan.{Scan}
 use Rattle.derivation.specs.Rounds.{rules-for, all-facts}
@@ -23,7 +23,7 @@ use Rattle.judge.specs.declared.Judgement.{Judgement}
 
 -- every field but the kind is zero
 abbrev pub blank : Kind → Judgement
-blank kind = record { kind = kind; rule = 0; length = 0; positions = replicate 16 0; rounds = 0; set = record { words = replicate 16 0 } }
+blank kind = record { kind = kind; rule = 0; length = 0; positions = replicate 16 0; rounds = 0; set = no-atoms }
 
 -- beside n atoms and the rounds in the lent places; a rule's number and positions are held from 0, and said from 1
 unfoldable pub said : Kind → Judgement → ℕ → List ℕ → Outcome
@@ -39,17 +39,22 @@ Lent Unsatisfied n rounds rounds′ = rounds′ ≡ rounds
 Lent Accepted n rounds rounds′ = (length rounds′ ≡ length rounds) × ((a : ℕ) → n ≤ a → getD rounds′ a 0 ≡ getD rounds a 0)
 Lent Smaller n rounds rounds′ = rounds′ ≡ rounds
 
--- the set of SMALLER has none but the n atoms
-unfoldable pub NoneBehind : Kind → Judgement → ℕ → Type 0
-NoneBehind OutOfRange j n = Unit {0}
-NoneBehind Unsatisfied j n = Unit {0}
-NoneBehind Accepted j n = Unit {0}
-NoneBehind Smaller j n = (a : ℕ) → n ≤ a → holds (j .set) a ≡ false
+-- a set that is well kept, and has none but the n atoms
+pub record SetBelow (n : ℕ) (s : Derived) : Type 0 where
+  pub well-kept : WellKept s
+  pub none-behind : (a : ℕ) → n ≤ a → holds s a ≡ false
+
+-- the set of SMALLER is one
+unfoldable pub SetShown : Kind → Judgement → ℕ → Type 0
+SetShown OutOfRange j n = Unit {0}
+SetShown Unsatisfied j n = Unit {0}
+SetShown Accepted j n = Unit {0}
+SetShown Smaller j n = SetBelow n (j .set)
 
 pub record Judged (names : List Bytes) (P : List (Rule ℕ)) (I : List (Fact ℕ)) (rounds rounds′ : List ℕ) (j : Judgement) : Type 0 where
   pub says : said (j .kind) j (length I) rounds′ ≡ outcome (codes names) code-in-range P I
   pub lent : Lent (j .kind) (length I) rounds rounds′
-  pub none-behind : NoneBehind (j .kind) j (length I)
+  pub set-shown : SetShown (j .kind) j (length I)
 
 -- ---- over the store, whatever the names
 

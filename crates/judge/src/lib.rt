@@ -32,13 +32,14 @@ pub struct Judgement {
 fn blank(kind: Kind) -> Judgement
     ensures { λ j. ⌜ j ≡ blank kind ⌝ }
 {
+    let set = Derived::empty();
     Judgement {
         kind,
         rule: 0,
         length: 0,
         positions: [0; 16],
         rounds: 0,
-        set: Derived { words: [0; 16] },
+        set,
     }
 }
 
