@@ -3,7 +3,6 @@ ghost use mathlib.Core.Path.{_≡_};
 ghost use Prim.Native.Nat.{_≤_};
 use libc::STDIN_FILENO;
 use tokens::parts::part;
-use tokens::parts::same_bytes;
 use tokens::place_from;
 
 // The most bytes of a frame's first line.
@@ -78,12 +77,6 @@ pub fn read_line(line: &mut [u8; MOST_LINE]) -> Line {
 // The words of a line of this length.
 pub fn words(line: &[u8; MOST_LINE], len: usize) -> &[u8] {
     part(line, place_from(0, len))
-}
-
-// Does the line begin with this word?
-pub fn begins_with(line: &[u8], word: &[u8]) -> bool {
-    let start = part(line, place_from(0, word.len()));
-    same_bytes(start, word)
 }
 
 // No number: what is read at a place of the line is of no known form.

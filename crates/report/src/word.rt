@@ -1,6 +1,9 @@
 // The words that a report starts with, and the solver's code that goes with each.
 ghost use mathlib.Core.Path.{_≡_};
 ghost use Rattle.report.specs.Word.{startsWith, agrees};
+use tokens::parts::part;
+use tokens::parts::same_bytes;
+use tokens::place_from;
 
 pub enum Word {
     Answer,
@@ -29,15 +32,5 @@ pub fn agrees(word: Word, code: u64) -> bool
 pub fn starts_with(line: &[u8], word: &[u8]) -> bool
     ensures { λ r. ⌜ r ≡ startsWith (now (word .entry)) (now (line .entry)) ⌝ }
 {
-    let mut i = 0;
-    while i < word.len() {
-        if line.len() <= i {
-            return false;
-        }
-        if line[i] != word[i] {
-            return false;
-        }
-        i += 1;
-    }
-    true
+    same_bytes(part(line, place_from(0, word.len())), word)
 }

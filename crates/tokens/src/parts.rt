@@ -21,21 +21,22 @@ pub fn part(text: &[u8], place: Place) -> &[u8]
     &text[start..end]
 }
 
-// Are the bytes the same?
+// Are the bytes the same? Lengths are compared first, and then bytes from the last one back: names that share a long start differ there.
 pub fn same_bytes(a: &[u8], b: &[u8]) -> bool
     ensures { λ r. ⌜ r ≡ same-bytes (now (a .entry)) (now (b .entry)) ⌝ }
 {
-    let mut i = 0;
-    while i < a.len() {
-        if b.len() <= i {
-            return false;
-        }
+    if a.len() != b.len() {
+        return false;
+    }
+    let mut seen = 0;
+    while seen < a.len() {
+        let i = a.len() - 1 - seen;
         if a[i] != b[i] {
             return false;
         }
-        i += 1;
+        seen += 1;
     }
-    b.len() == i
+    true
 }
 
 // The lesser of two counts: how many things there are, or for how many there is room.

@@ -1,10 +1,10 @@
 // Many cases in one run: reads frames from standard input until it ends, and writes an answer for each. A frame is a line of words
 // and numbers and the bytes that it announces; the run ends with the line BAD FRAME at one that is of no known form.
 use frames::MOST_LINE;
-use frames::begins_with;
 use frames::read_line;
 use frames::words;
 use print::say;
+use report::word::starts_with;
 
 mod answer_line;
 mod check_frame;
@@ -29,10 +29,10 @@ fn places_room() -> [u16; 2048] {
 
 // The answer to a frame with this first line: false where it is of no known form.
 fn answer(line: &[u8], texts: &mut [u8], buffer: &mut [u8], places: &mut [u16]) -> bool {
-    if begins_with(line, b"check ") {
+    if starts_with(line, b"check ") {
         return check_frame::answer(line, texts, places);
     }
-    if begins_with(line, b"plain ") {
+    if starts_with(line, b"plain ") {
         return plain_frame::answer(line, texts, buffer);
     }
     false
