@@ -13,6 +13,7 @@ use Rattle.tokens.specs.Run.{isBlank}
 use Rattle.tokens.specs.Gap.{startsComment, gap}
 use Rattle.tokens.specs.Kind.{isStray}
 use Rattle.tokens.specs.Spelling.{singleKind, pairKind, kindOf}
+use Rattle.meaning.proofs.Booleans.{never-true}
 use Rattle.tokens.proofs.Conjunction.{both}
 use Rattle.tokens.proofs.Prefix.{prefix-none}
 use Rattle.tokens.proofs.Gaps.{no-gap}
@@ -37,10 +38,6 @@ comment-stray : (b : ℕ) (rest : List ℕ) → startsComment (b ∷ rest) ≡ t
 unfolding startsComment classOf singleKind pairKind
 comment-stray b rest e more = rw (eqb-true b 37 (both (eqb b 37) _ e .0)) (no-mark 37 refl refl (λ c. refl) more)
 
-is-false : (t : Bool) → (t ≡ true → ⊥) → t ≡ false
-is-false true h = absurd (h refl)
-is-false false h = refl
-
 pub token-no-gap : (program : Bool) (text : List ℕ) (len : ℕ) → isStray (kindOf (take len text)) ≡ false → gap program text ≡ 0
 unfolding kindOf
 token-no-gap program [] zero h = absurd (true≢false h)
@@ -48,5 +45,5 @@ token-no-gap program [] (suc len) h = absurd (true≢false h)
 token-no-gap program (b ∷ rest) zero h = absurd (true≢false h)
 token-no-gap program (b ∷ rest) (suc len) h =
     no-gap program (b ∷ rest)
-    (prefix-none (isBlank program) b rest (is-false (isBlank program b) (λ e. true≢false (sym (ap isStray (blank-stray program b (take len rest) e)) ∙ h))))
-    (is-false (program && startsComment (b ∷ rest)) (λ e. true≢false (sym (ap isStray (comment-stray b rest (both program (startsComment (b ∷ rest)) e .1) (take len rest))) ∙ h)))
+    (prefix-none (isBlank program) b rest (never-true (isBlank program b) (λ e. true≢false (sym (ap isStray (blank-stray program b (take len rest) e)) ∙ h))))
+    (never-true (program && startsComment (b ∷ rest)) (λ e. true≢false (sym (ap isStray (comment-stray b rest (both program (startsComment (b ∷ rest)) e .1) (take len rest))) ∙ h)))

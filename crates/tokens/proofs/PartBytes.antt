@@ -1,6 +1,6 @@
 -- Laws of the bytes of a place, and of whether two names are the same.
-use mathlib.Core.Path.{_≡_, refl, sym as inv, _∙_}
-use mathlib.Core.Bool.{Bool, true, false}
+use mathlib.Core.Path.{_≡_, sym as inv, _∙_}
+use mathlib.Core.Bool.{true, false}
 use Prim.Native.Nat.{ℕ, _+_, _-_, _≤_, _<_}
 use native.Mathlib.Omega.{arith}
 use lib.ListN.{length, take, drop, getD, length-drop, drop-of-length-le}
@@ -11,6 +11,7 @@ use Rattle.tokens.specs.Tokens.{part}
 use Rattle.tokens.proofs.Prefix.{drop-at}
 use Rattle.meaning.specs.Rules.{Bytes}
 use Rattle.meaning.specs.Values.{same-bytes}
+use Rattle.meaning.proofs.Booleans.{never-true}
 use Rattle.meaning.proofs.Facts.{same-bytes-sound}
 
 module _ (text : Bytes) (place : Place) where
@@ -28,11 +29,7 @@ module _ (text : Bytes) (place : Place) where
 module _ (a b : Bytes) where
   -- a length or a byte tells names apart
   pub told-apart : (a ≡ b → ⊥) → same-bytes a b ≡ false
-  told-apart h = go (same-bytes a b) refl
-    where
-      go : (t : Bool) → same-bytes a b ≡ t → same-bytes a b ≡ false
-      go true e = absurd (h (same-bytes-sound a b e))
-      go false e = e
+  told-apart h = never-true (same-bytes a b) (λ e. h (same-bytes-sound a b e))
 
   -- behind the last byte, and a byte before bytes that are known
   module _ (i : ℕ) where
