@@ -5,6 +5,7 @@ use mathlib.Core.Bool.{Bool, true, false}
 use mathlib.Core.Logic.{_↔_}
 use mathlib.Core.List.{List, _++_}
 use Prim.Native.Nat.{ℕ, _≤_}
+use native.Mathlib.Omega.{arith}
 use lib.ListN.{length, getD, take, drop}
 use Rattle.tokens.specs.declared.Place.{Place}
 use Rattle.meaning.specs.Rules.{Bytes}
@@ -23,6 +24,7 @@ use Rattle.promise.specs.Refusals.{Read, Case}
 use Rattle.promise.specs.Ready.{Ready}
 use Rattle.promise.proofs.Numbers as numbers
 use Rattle.promise.proofs.Claims as claims
+use Rattle.promise.proofs.Rounds as rounds
 use Rattle.promise.proofs.Demands as demands
 use Rattle.fields.specs.declared.answer.Kind.{Kind}
 use Rattle.fields.specs.declared.answer.Kind.the-variants as kinds
@@ -77,6 +79,14 @@ module _ (the-program the-output : Bytes) (code : ℕ) (places : List ℕ) (a : 
   -- its size is how many positions the answer shows: those of SMALLER, and none with any other kind
   pub kept-size : a .kept .size ≡ length (fields (h .answer) .kept)
   kept-size = h .says .nothing-else .well-kept ∙ sym (kept-sized (a .kept)) ∙ ap (λ (x : Fields). length (x .kept)) (h .says .zero)
+
+  -- ---- ROUNDS
+
+  -- it never passes the number of atoms: with a kind that names neither, both are zero
+  pub rounds-at-most : a .rounds ≤ a .atoms
+  rounds-at-most =
+      let f : fields-of a ≡ fields (h .answer) = h .says .zero in
+      omega (arith, ap (λ (x : Fields). x .rounds) f, ap (λ (x : Fields). x .atoms) f, rounds.rounds-at-most the-program the-output code places (h .answer) left (h .gives))
 
   -- ---- the third demand
 

@@ -2,4 +2,5 @@ pub mod Judged
 pub mod Unique
 pub mod Numbers
 pub mod Claims
+pub mod Rounds
 pub mod Demands
