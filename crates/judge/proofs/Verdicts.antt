@@ -123,9 +123,9 @@ module _ (names : List Bytes) (P : List (Rule ℕ)) (facts : List ℕ) (n : ℕ)
   judged-broken in-range rounds j b = record { says = rw (b .is, said) (outcome-broken names P I in-range (j .rule) (take (j .length) (j .positions)) (b .first)); lent = rw (b .is, Lent) refl; set-shown = rw (b .is, SetShown) tt }
 
   -- the rounds decide
-  module _ (in-range : overflow (codes names) code-in-range P I ≡ none) (unbroken : broken (codes names) P I ≡ none) (table table′ : List ℕ) (set : Derived) (k : ℕ) (found : RoundsOf (codes names) P I table table′ set k) (few : n ≤ places) where
+  module _ (in-range : overflow (codes names) code-in-range P I ≡ none) (unbroken : broken (codes names) P I ≡ none) (table table′ : List ℕ) (set : Derived) (k : ℕ) (found : RoundsOf (codes names) P I table table′ set k) (only-facts : (a : ℕ) → n ≤ a → holds set a ≡ false) (few : n ≤ places) where
     sized : size set ≡ count (holds set) n
-    sized = size-below set n few (λ a h. found .none a (omega (arith, long, h)))
+    sized = size-below set n few only-facts
 
     at-place : (a : ℕ) → a < n → holds set a ≡ levels k (fact-at facts a)
     at-place a h = found .is-set a (fact-at facts a) (below-fact facts n a h)
@@ -146,7 +146,7 @@ module _ (names : List Bytes) (P : List (Rule ℕ)) (facts : List ℕ) (n : ℕ)
         let e = shows .is in
         let s = shows .kept in
         let kept : from (holds set) (length I) 0 ≡ map (levels k) I = ap (λ (m : ℕ). from (holds set) m 0) long ∙ from-same (holds set) (λ i. levels k (fact-at facts i)) n 0 (λ i a b. at-place i (omega arith)) ∙ sym (from-map (levels k) (fact-at facts) n 0) in
-        record { says = rw (e, said, s, kept) (rw (← found .is-rounds) at (outcome-smaller names P I in-range unbroken (rw (← found .is-rounds) (not-whole h)))); lent = rw (e, Lent) refl; set-shown = rw (e, SetShown, s) (record { well-kept = w; none-behind = λ a l. found .none a l }) }
+        record { says = rw (e, said, s, kept) (rw (← found .is-rounds) at (outcome-smaller names P I in-range unbroken (rw (← found .is-rounds) (not-whole h)))); lent = rw (e, Lent) refl; set-shown = rw (e, SetShown, s) (record { well-kept = w; none-behind = λ a l. only-facts a (omega (arith, long, l)) }) }
 
     module _ (h : n ≤ size set) (rounds rounds′ : List ℕ) (copied : Copied table′ rounds rounds′) (wide : length table ≡ n) (room : n ≤ length rounds) where
       abbrev round : Fact ℕ → ℕ
@@ -240,7 +240,7 @@ module _ (ranks store : List ℕ) (scan : Scan) (table table′ : List ℕ) (lim
   judged-short b h names c in-range =
       elim (rejects names c) [
         | inl s ↦ judged-broken names (rules-for store (scan .total)) (facts-in store) (scan .count) in-range rounds j s
-        | inr s ↦ judged-smaller names (rules-for store (scan .total)) (facts-in store) (scan .count) in-range (s .unbroken) table table′ (limit .set) (limit .rounds) (found .limit names c b (s .unbroken)) few (omega (arith, found .well-kept)) (found .well-kept) rounds j s
+        | inr s ↦ judged-smaller names (rules-for store (scan .total)) (facts-in store) (scan .count) in-range (s .unbroken) table table′ (limit .set) (limit .rounds) (found .limit names c b (s .unbroken)) (found .only-facts) few (omega (arith, found .well-kept)) (found .well-kept) rounds j s
       ]
 
 -- ---- a candidate all of whose facts are derived
@@ -249,6 +249,6 @@ module _ (ranks store : List ℕ) (n total : ℕ) (table table′ : List ℕ) (l
   pub judged-whole : (j : Judgement) → j .kind ≡ Accepted → j .rounds ≡ limit .rounds → JudgedInRange ranks store n total rounds rounds′ j
   judged-whole j e s names c in-range =
       let full : n ≤ size (limit .set) = omega (arith, found .well-kept) in
-      let sized = size-below (limit .set) n few (found .only-facts names c unmet) in
+      let sized = size-below (limit .set) n few (found .only-facts) in
       let unbroken = found .unbroken names c unmet (count-full (holds (limit .set)) n (omega (arith, sized))) in
-      judged-accepted names (rules-for store total) (facts-in store) n in-range unbroken table table′ (limit .set) (limit .rounds) (found .limit names c unmet unbroken) few full rounds rounds′ copied wide room j e s
+      judged-accepted names (rules-for store total) (facts-in store) n in-range unbroken table table′ (limit .set) (limit .rounds) (found .limit names c unmet unbroken) (found .only-facts) few full rounds rounds′ copied wide room j e s
