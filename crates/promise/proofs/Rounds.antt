@@ -1,4 +1,5 @@
--- ROUNDS is at most the number of atoms, of every answer: what is accepted is a program that is safe, and breaks no instance.
+-- ROUNDS is at most the number of atoms, of every answer: the rules of a program that is read are safe, and a candidate that is accepted breaks no
+-- instance of them.
 use mathlib.Core.Path.{_≡_, refl, ap}
 use mathlib.Core.Bool.{true, false}
 use mathlib.Core.List.{List}
@@ -23,7 +24,7 @@ use Rattle.promise.specs.Answer.{Answer, Result, says, result, fields}
 use Rattle.promise.specs.Judged.{VerdictStage, judged}
 use Rattle.promise.specs.Answered.{Reported, Check, Answered}
 
--- the kinds that do not name them have none of either
+-- with a kind that names neither both are zero
 abbrev AtMost : Answer → Type 0
 AtMost a = fields a .rounds ≤ fields a .atoms
 
