@@ -51,9 +51,9 @@ impl Programs {
 /// The verdict and the rounds from the first words of an answer; a refusal is an error.
 pub fn said(job: &Job, answer: &[u8]) -> io::Result<Result<usize, String>> {
     let text = String::from_utf8_lossy(answer);
-    let words: Vec<&str> = text.split_whitespace().take(8).collect();
+    let words: Vec<&str> = text.split_whitespace().take(10).collect();
     match words[..] {
-        ["ACCEPTED", _, _, _, "atoms", _, "rounds", rounds]
+        ["ACCEPTED", _, _, _, _, _, "atoms", _, "rounds", rounds]
         | ["VERDICT", "ACCEPTED", "ATOMS", _, "ROUNDS", rounds, ..] => rounds.parse().map(Ok).map_err(io::Error::other),
         [verdict @ ("UNSATISFIED" | "SMALLER"), ..] | ["VERDICT", verdict, ..] => Ok(Err(verdict.to_string())),
         _ => Err(io::Error::other(format!("{}: {}", job.name, text.trim_end()))),

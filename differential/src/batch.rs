@@ -74,11 +74,11 @@ fn answer_length(rest: &[u8]) -> usize {
     }
 }
 
-/// The length that a line `WRITTEN program 0 0 length N kept` says.
+/// The length that a line `WRITTEN program 0 0 1 1 length N kept` says.
 fn written_length(line: &[u8]) -> Option<usize> {
     let words: Vec<&str> = std::str::from_utf8(line).ok()?.split(' ').collect();
     match words[..] {
-        ["WRITTEN", _, _, _, "length", length, _] => length.parse().ok(),
+        ["WRITTEN", _, _, _, _, _, "length", length, _] => length.parse().ok(),
         _ => None,
     }
 }

@@ -30,6 +30,7 @@ pub fn run_generated(command: &[String], seed: u64, count: u64) -> io::Result<bo
     let cases = generated(seed, count);
     let mut wanted: Vec<Vec<u8>> = cases.iter().map(honest).collect();
     print_kinds(&wanted)?;
+    print_lines(&wanted)?;
     wanted.push(batch::BAD_FRAME.to_vec());
     let written = all_written(command, &cases, batch::bad_frame(seed))?;
     report(command, &cases, &wanted, &batch::answers(&written))
@@ -79,6 +80,25 @@ fn print_kinds(wanted: &[Vec<u8>]) -> io::Result<()> {
     }
     let kinds: Vec<String> = kinds.iter().map(|(kind, count)| format!("{kind}: {count}")).collect();
     writeln!(io::stdout(), "{}", kinds.join(", "))
+}
+
+/// How many of the wanted refusals are at a line above 1, in each text.
+fn print_lines(wanted: &[Vec<u8>]) -> io::Result<()> {
+    let refused: Vec<(&str, usize)> = wanted.iter().filter_map(|answer| refused_line(answer)).collect();
+    let told = ["program", "output"].map(|text| {
+        let lines = refused.iter().filter(|one| one.0 == text).map(|one| one.1);
+        format!("{} of {} of the {text}", lines.clone().filter(|line| *line > 1).count(), lines.count())
+    });
+    writeln!(io::stdout(), "refusals at a line above 1: {}", told.join(", "))
+}
+
+/// The text and the line of a refusal.
+fn refused_line(answer: &[u8]) -> Option<(&str, usize)> {
+    let words: Vec<&str> = std::str::from_utf8(answer).ok()?.split_whitespace().collect();
+    match words[..] {
+        ["REFUSED", _, text, _, _, line, _, _] => Some((text, line.parse().ok()?)),
+        _ => None,
+    }
 }
 
 /// Prints how many answers differ, and the first of them made small.

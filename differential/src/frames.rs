@@ -2,6 +2,7 @@
 
 use crate::answer::{Answer, Part, Text};
 use crate::check::{self, Lent, Settle};
+use crate::lines::{self, Texts};
 
 /// Most places that a frame may ask for.
 pub const MOST_PLACES: usize = 2_048;
@@ -123,12 +124,12 @@ pub fn answer(case: &Case, settle: Settle) -> Vec<u8> {
             let mut lent: Vec<u16> = (0..*places).map(pattern).collect();
             let texts = Lent { program, output, code: *code };
             let answer = check::check(texts, &mut lent, settle);
-            check_line(&answer, &lent)
+            check_line(Texts { program, output }, &answer, &lent)
         }
         Case::Plain { room, program } => {
             let mut lent: Vec<u8> = (0..*room).map(|place| pattern(place) as u8).collect();
             let answer = check::write_plain(program, &mut lent);
-            write_lines(&answer, &lent)
+            write_lines(program, &answer, &lent)
         }
     }
 }
@@ -138,7 +139,7 @@ fn pattern(place: usize) -> u16 {
     40_000 + (place * 7 % 20_000) as u16
 }
 
-fn check_line(answer: &Answer, lent: &[u16]) -> Vec<u8> {
+fn check_line(texts: Texts, answer: &Answer, lent: &[u16]) -> Vec<u8> {
     let written = match answer {
         Answer::Accepted { atoms, .. } => *atoms,
         _ => 0,
@@ -146,17 +147,18 @@ fn check_line(answer: &Answer, lent: &[u16]) -> Vec<u8> {
     let (each, later) = lent.split_at(written);
     let kept = later.iter().zip(written..).all(|(now, place)| *now == pattern(place));
     let each: Vec<usize> = each.iter().map(|round| usize::from(*round)).collect();
-    format!("{} {}\n", words(answer, &each), last_word(kept)).into_bytes()
+    format!("{} {}\n", words(texts, answer, &each), last_word(kept)).into_bytes()
 }
 
-fn write_lines(answer: &Answer, lent: &[u8]) -> Vec<u8> {
+fn write_lines(program: &[u8], answer: &Answer, lent: &[u8]) -> Vec<u8> {
     let written = match answer {
         Answer::Written { length } => *length,
         _ => 0,
     };
     let (form, later) = lent.split_at(written);
     let kept = later.iter().zip(written..).all(|(now, place)| *now == pattern(place) as u8);
-    let mut lines = format!("{} {}\n", words(answer, &[]), last_word(kept)).into_bytes();
+    let texts = Texts { program, output: &[] };
+    let mut lines = format!("{} {}\n", words(texts, answer, &[]), last_word(kept)).into_bytes();
     if matches!(answer, Answer::Written { .. }) {
         lines.extend_from_slice(form);
         lines.push(b'\n');
@@ -173,8 +175,8 @@ fn last_word(kept: bool) -> &'static str {
 }
 
 /// An answer line but its last word.
-fn words(answer: &Answer, each: &[usize]) -> String {
-    let start = place(Part::empty(Text::Program, 0));
+fn words(texts: Texts, answer: &Answer, each: &[usize]) -> String {
+    let start = place(texts, Part::empty(Text::Program, 0));
     match answer {
         Answer::Accepted { atoms, rounds } => {
             format!("ACCEPTED {start} atoms {atoms} rounds {rounds} each{}", list(each))
@@ -186,12 +188,14 @@ fn words(answer: &Answer, each: &[usize]) -> String {
         Answer::ClaimedNone => format!("CLAIMED-NONE {start}"),
         Answer::ClaimedUnknown => format!("CLAIMED-UNKNOWN {start}"),
         Answer::Written { length } => format!("WRITTEN {start} length {length}"),
-        Answer::Refused(refusal) => format!("REFUSED {} {}", refusal.number, place(refusal.part)),
+        Answer::Refused(refusal) => format!("REFUSED {} {}", refusal.number, place(texts, refusal.part)),
     }
 }
 
-fn place(part: Part) -> String {
-    format!("{} {} {}", part.text.name(), part.start, part.length)
+/// A part's place: its text, its first byte, its length, and the line and column of that byte.
+fn place(texts: Texts, part: Part) -> String {
+    let spot = lines::spot(texts, part);
+    format!("{} {} {} {} {}", part.text.name(), part.start, part.length, spot.line, spot.column)
 }
 
 /// Numbers, each behind a blank.

@@ -95,11 +95,7 @@ fn program(random: &mut Random) -> Vec<u8> {
     if random.chance(6) {
         rules.extend(shapes::negation(random));
     }
-    let text = rules.concat();
-    if random.chance(30) {
-        return style::restyled(random, &text);
-    }
-    text.into_bytes()
+    style::styled(random, &rules.concat())
 }
 
 /// A program and its rules; one that is not read is seldom kept.
@@ -145,14 +141,14 @@ fn check_case(random: &mut Random, faults: Faults) -> Case {
     let spelled: Vec<String> = facts.iter().map(candidates::spelled).collect();
     let mut line = style::facts_line(random, &spelled);
     if faults.program {
-        program = damage::damaged(random, &program, Language::Program);
+        program = damage::damaged_program(random, &program);
     }
     if faults.facts {
         line = damage::damaged(random, &line, Language::Facts);
     }
     let (mut output, code) = match faults.around {
         true => outputs::unusual(random, &line),
-        false => outputs::usual(&line),
+        false => outputs::usual(random, &line),
     };
     if faults.facts && random.chance(10) {
         output = damage::damaged(random, &output, Language::Facts);
@@ -163,11 +159,10 @@ fn check_case(random: &mut Random, faults: Faults) -> Case {
 
 fn sized_case(random: &mut Random) -> Case {
     let sized = sizes::sized(random);
-    let (mut output, code) = outputs::usual(&sized.facts);
-    if let Some(length) = sized.output_length {
-        let filling = random.pick(&["%", "\n"]);
-        output.resize(length, filling.as_bytes()[0]);
-    }
+    let (output, code) = match sized.output_length {
+        Some(length) => outputs::filled(random, &sized.facts, length),
+        None => outputs::usual(random, &sized.facts),
+    };
     let places = if random.chance(90) { MOST_PLACES } else { random.below(3) };
     Case::Check { code, places, program: sized.program, output }
 }
@@ -178,7 +173,7 @@ fn plain_case(random: &mut Random) -> Case {
         false => style_of_program(random),
     };
     if random.chance(25) {
-        text = damage::damaged(random, &text, Language::Program);
+        text = damage::damaged_program(random, &text);
     }
     let length = read_program(&text).map_or(text.len(), |rules| plain_form(&rules).len());
     let room = match random.below(10) {

@@ -13,6 +13,7 @@ mod frames;
 mod generate;
 mod grammar;
 mod lexer;
+mod lines;
 mod meaning;
 mod mutants;
 mod options;

@@ -69,6 +69,12 @@ fn report_at(output: &[u8], first: Line) -> Result<(Report, Line), Refusal> {
     }
 }
 
+/// Where the facts line of an output starts, if it has one.
+pub fn facts_start(output: &[u8]) -> Option<usize> {
+    let first = first_other_line(output, 0).filter(|line| has_word(output, *line, b"ANSWER"))?;
+    line_from(output, first.end + 1).map(|line| line.start)
+}
+
 /// Whether a line starts with the report's word.
 fn has_word(output: &[u8], line: Line, word: &[u8]) -> bool {
     let bytes = &output[line.start..line.end];

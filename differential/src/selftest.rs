@@ -119,7 +119,7 @@ fn plain_forms_hold(cases: &[Case]) -> io::Result<bool> {
         let form = plain_form(&rules);
         let again = read_program(&form).map(|rules| plain_form(&rules));
         let written = Case::Plain { room: form.len(), program: case.program().to_vec() };
-        let line = format!("WRITTEN program 0 0 length {} kept\n", form.len());
+        let line = format!("WRITTEN program 0 0 1 1 length {} kept\n", form.len());
         let wanted = [line.as_bytes(), &form, b"\n"].concat();
         if form.len() > case.program().len() || again.as_ref() != Ok(&form) || honest(&written) != wanted {
             failed.push(format!("case {number}"));

@@ -4,12 +4,14 @@ ghost use Rattle.terms.specs.Cursors.{ReadyCursor};
 ghost use Rattle.atoms.specs.Arguments.{stoppedArguments, goneArguments, ReadySome, ReadsArguments};
 use syntax::separator::separator_at;
 use syntax::token::Progress;
+use syntax::token::TokenRead;
 use syntax::token::token_at;
 use terms::cursor::Cursor;
 use terms::cursor::onward;
 use terms::term::term_at;
-use tokens::NOWHERE;
 use tokens::kind::CLOSE;
+use tokens::place::Place;
+use tokens::place::past;
 use tokens::sizes::MOST_ARGUMENTS;
 
 // The numbers of the first `count` terms, and how many variables have been met behind them.
@@ -31,14 +33,13 @@ fn stopped(progress: Progress, met: usize) -> ArgumentsRead
     }
 }
 
-fn gone(terms: [u64; MOST_ARGUMENTS], count: usize, next: usize, met: usize) -> ArgumentsRead
+fn gone(terms: [u64; MOST_ARGUMENTS], count: usize, next: Place, met: usize) -> ArgumentsRead
     ensures { λ r. ⌜ r ≡ goneArguments terms count next met ⌝ }
 {
     ArgumentsRead {
         progress: Progress {
             code: 0,
-            place: NOWHERE,
-            next,
+            place: next,
         },
         terms,
         count,
@@ -54,31 +55,34 @@ fn some_arguments<'a>(
     names: &mut [u32],
     variables: &mut [u32],
     cursor: Cursor,
+    first: TokenRead,
 ) -> ArgumentsRead
-    requires { ⌜ ReadySome (now program) (now output) (now text) (now names) (now variables) cursor ⌝ }
+    requires { ⌜ ReadySome (now program) (now output) (now text) (now names) (now variables) cursor first ⌝ }
     ensures { λ r. ⌜ ReadsArguments (now (program .entry)) (now (output .entry)) (now (text .entry)) (now (names .entry)) (now (variables .entry)) cursor r (now (names .exit)) (now (variables .exit)) ⌝ }
 {
     let mut terms = [0; MOST_ARGUMENTS];
     let mut at = cursor.at;
     let mut met = cursor.met;
     let mut count = 0;
+    let mut token = first;
     loop {
         let here = onward(cursor, at, MOST_ARGUMENTS <= count, met);
-        let read = term_at(program, output, text, names, variables, here);
+        let read = term_at(program, output, text, names, variables, here, token);
         if read.progress.code != 0 {
             return stopped(read.progress, met);
         }
         terms[count] = read.number;
         count += 1;
         met = read.met;
-        let end = separator_at(text, read.progress.next, cursor.ground, CLOSE);
+        let end = separator_at(text, read.progress.place, cursor.ground, CLOSE);
         if end.progress.code != 0 {
             return stopped(end.progress, met);
         }
         if end.last {
-            return gone(terms, count, end.progress.next, met);
+            return gone(terms, count, end.progress.place, met);
         }
-        at = end.progress.next;
+        at = end.progress.place;
+        token = token_at(text, at, cursor.ground);
     }
 }
 
@@ -96,7 +100,7 @@ pub fn arguments_at<'a>(
 {
     let token = token_at(text, cursor.at, cursor.ground);
     if token.kind == CLOSE {
-        return gone([0; MOST_ARGUMENTS], 0, token.next, cursor.met);
+        return gone([0; MOST_ARGUMENTS], 0, past(token.place), cursor.met);
     }
-    some_arguments(program, output, text, names, variables, cursor)
+    some_arguments(program, output, text, names, variables, cursor, token)
 }

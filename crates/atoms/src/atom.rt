@@ -7,17 +7,18 @@ use codes::predicate;
 use rows::literal::AtomCodes;
 use rows::term::name_number;
 use syntax::token::Progress;
+use syntax::token::TokenRead;
 use syntax::token::token_at;
 use syntax::word::OVER;
 use syntax::word::WRONG;
 use syntax::word::word_code;
 use terms::cursor::Cursor;
 use terms::cursor::onward;
-use tokens::NOWHERE;
-use tokens::Place;
 use tokens::kind::MINUS;
 use tokens::kind::NAME;
 use tokens::kind::OPEN;
+use tokens::place::Place;
+use tokens::place::past;
 use tokens::sizes::MOST_ARGUMENTS;
 
 // An atom's numbers, and how many variables have been met behind it.
@@ -37,11 +38,7 @@ fn stopped(code: u8, place: Place, met: usize) -> AtomRead
     ensures { λ r. ⌜ r ≡ stoppedAtom code place met ⌝ }
 {
     AtomRead {
-        progress: Progress {
-            code,
-            place,
-            next: 0,
-        },
+        progress: Progress { code, place },
         codes: AtomCodes {
             predicate: 0,
             terms: [0; MOST_ARGUMENTS],
@@ -50,14 +47,13 @@ fn stopped(code: u8, place: Place, met: usize) -> AtomRead
     }
 }
 
-fn gone(predicate: u64, terms: [u64; MOST_ARGUMENTS], next: usize, met: usize) -> AtomRead
+fn gone(predicate: u64, terms: [u64; MOST_ARGUMENTS], next: Place, met: usize) -> AtomRead
     ensures { λ r. ⌜ r ≡ goneAtom predicate terms next met ⌝ }
 {
     AtomRead {
         progress: Progress {
             code: 0,
-            place: NOWHERE,
-            next,
+            place: next,
         },
         codes: AtomCodes { predicate, terms },
         met,
@@ -83,14 +79,14 @@ pub fn named_atom<'a>(
         let alone = predicate(name.negative, number, 0);
         return gone(alone, [0; MOST_ARGUMENTS], cursor.at, cursor.met);
     }
-    let inside = onward(cursor, token.next, false, cursor.met);
+    let inside = onward(cursor, past(token.place), false, cursor.met);
     let read = arguments_at(program, output, text, names, variables, inside);
     if read.progress.code != 0 {
         return stopped(read.progress.code, read.progress.place, read.met);
     }
     let terms = read.terms;
     let with_arguments = predicate(name.negative, number, read.count as u64);
-    gone(with_arguments, terms, read.progress.next, read.met)
+    gone(with_arguments, terms, read.progress.place, read.met)
 }
 
 // The atom whose minus ends before the cursor.
@@ -114,7 +110,7 @@ pub fn minus_atom<'a>(
         return stopped(code, token.place, cursor.met);
     }
     let number = name_number(program, output, text, names, cursor.base, token.place);
-    let behind = onward(cursor, token.next, false, cursor.met);
+    let behind = onward(cursor, past(token.place), false, cursor.met);
     let name = SignedName {
         negative: true,
         number,
@@ -130,12 +126,12 @@ pub fn atom_at<'a>(
     names: &mut [u32],
     variables: &mut [u32],
     cursor: Cursor,
+    token: TokenRead,
 ) -> AtomRead
-    requires { ⌜ ReadyAtom (now program) (now output) (now text) (now names) (now variables) cursor ⌝ }
+    requires { ⌜ ReadyAtom (now program) (now output) (now text) (now names) (now variables) cursor token ⌝ }
     ensures { λ r. ⌜ ReadsAtom (now (program .entry)) (now (output .entry)) (now (text .entry)) (now (names .entry)) (now (variables .entry)) cursor r (now (names .exit)) (now (variables .exit)) ⌝ }
 {
-    let token = token_at(text, cursor.at, cursor.ground);
-    let behind = onward(cursor, token.next, false, cursor.met);
+    let behind = onward(cursor, past(token.place), false, cursor.met);
     if token.kind == NAME {
         let code = word_code(token.place, cursor.over);
         if code != 0 {

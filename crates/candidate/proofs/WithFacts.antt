@@ -5,9 +5,9 @@ use mathlib.Core.List.{List}
 use Prim.Native.Nat.{ℕ, _<_, _≤_}
 use native.Mathlib.Omega.{arith}
 use lib.ListN.{length}
-use Rattle.tokens.specs.declared.Place.{Place}
+use Rattle.tokens.specs.declared.place.Place.{Place}
 use Rattle.tokens.specs.Tokens.{part}
-use Rattle.tokens.specs.Places.{nowhere}
+use Rattle.tokens.specs.Place.{text-start}
 use Rattle.meaning.specs.Rules.{Bytes, Fact, Rule}
 use Rattle.meaning.specs.Values.{Value}
 use Rattle.names.specs.Table.{names-of}
@@ -48,15 +48,15 @@ module _ (program output : Bytes) (names store : List ℕ) (n : Counts) (fault :
       Here = Answers (Behind program output line places P I) places
 
       -- 6 or 7
-      pub by-clash : (fault .number ≡ 0 → ⊥) → ((r .number ≡ 0 → ⊥) → fault .place ≡ on-line line (sentence true (part output line) (r .fact))) → (a : Answer) → a ≡ refused (fault .number) Output (fault .place) → Here a places
+      pub by-clash : (fault .number ≡ 0 → ⊥) → ((r .number ≡ 0 → ⊥) → fault .place ≡ on-line output line (sentence true (part output line) (r .fact))) → (a : Answer) → a ≡ refused (fault .number) Output (fault .place) → Here a places
       by-clash z placed a e =
           let y : r .number ≡ 0 → ⊥ = λ w. z (of .numbered ∙ w) in
           let stage = first-clashes named (s .held .rules-held .name-table .distinct) (facts-in store) (n .facts) I (s .held .facts-stand) r (of .first-clash named) (fact-part output line) y in
           refuses _ places (fault .number) Output (fault .place) (rw (of .numbered, placed y) (stops _ _ stage)) a e
 
       -- 9
-      pub by-room : fault .number ≡ 0 → length places < n .facts → (a : Answer) → a ≡ refused 9 Output nowhere → Here a places
-      by-room z short a e = refuses _ places 9 Output nowhere (goes tt _ (without (clear z)) (stops _ _ (given (omega (arith, short, long))))) a e
+      pub by-room : fault .number ≡ 0 → length places < n .facts → (a : Answer) → a ≡ refused 9 Output text-start → Here a places
+      by-room z short a e = refuses _ places 9 Output text-start (goes tt _ (without (clear z)) (stops _ _ (given (omega (arith, short, long))))) a e
 
       -- the last stages
       pub by-stages : fault .number ≡ 0 → n .facts ≤ length places → (a : Answer) (left : List ℕ) → Answers (Settled (rule-part program) P I places) places a left → Here a left

@@ -1,10 +1,11 @@
 -- A store that stands for a program and a candidate.
 use mathlib.Core.Path.{_≡_}
-use mathlib.Core.Bool.{true, false}
+use mathlib.Core.Bool.{true}
 use mathlib.Core.List.{List}
-use Prim.Native.Nat.{ℕ, _+_, _≤_, _<_, min}
-use lib.ListN.{length}
-use Rattle.tokens.specs.declared.Place.{Place}
+use Prim.Native.Nat.{ℕ, _≤_, _<_}
+use lib.ListN.{length, getD}
+use Rattle.tokens.specs.declared.place.Place.{Place}
+use Rattle.tokens.specs.Place.{Countable}
 use Rattle.tokens.specs.Tokens.{part}
 use Rattle.meaning.specs.Sets.{every}
 use Rattle.meaning.specs.Rules.{Bytes, Fact, Rule}
@@ -102,12 +103,16 @@ pub record FaultOf (store : List ℕ) (n : Counts) (fault : Fault) (clash : Clas
   pub first-clash : (ns : List Bytes) → FirstClash ns (facts-in store) (n .facts) clash
   pub numbered : fault .number ≡ clash .number
 
+-- from the start of the line lines and columns can be counted on as far as each fact
+abbrev pub Reachable : Place → List ℕ → ℕ → Type 0
+Reachable line starts count = (k : ℕ) → k < count → Countable line (getD starts k 0)
+
 -- the facts are in the store, and the first of them that clashes has the fault
-pub record FactsPut (facts starts lengths : List ℕ) (count : ℕ) (store store′ : List ℕ) (fault : Fault) : Type 0 where
+pub record FactsPut (line : Place) (facts starts lengths : List ℕ) (count : ℕ) (store store′ : List ℕ) (fault : Fault) : Type 0 where
   pub clash : Clashing
   pub filled : FactsFilled facts count store store′ clash
   pub numbered : fault .number ≡ clash .number
-  pub placed : (clash .number ≡ 0 → ⊥) → fault .place ≡ fact-place starts lengths (clash .fact)
+  pub placed : (clash .number ≡ 0 → ⊥) → fault .place ≡ fact-place line starts lengths (clash .fact)
 
 -- the store stands for rules and facts
 pub record WithFacts (program output : Bytes) (names store : List ℕ) (n : Counts) (fault : Fault) : Type 0 where
@@ -120,4 +125,4 @@ pub record WithFacts (program output : Bytes) (names store : List ℕ) (n : Coun
 
 abbrev pub AnswersFacts : (program output : Bytes) (names store : List ℕ) → Counts → Fault → List ℕ → Answer → List ℕ → Type 0
 AnswersFacts program output names store n fault places a left =
-    (line : Place) (P : List (Rule Value)) (I : List (Fact Value)) → InStore program output names store n P I → (clash : Clashing) → FaultOf store n fault clash → ((clash .number ≡ 0 → ⊥) → fault .place ≡ on-line line (sentence true (part output line) (clash .fact))) → Answers (Behind program output line places P I) places a left
+    (line : Place) (P : List (Rule Value)) (I : List (Fact Value)) → InStore program output names store n P I → (clash : Clashing) → FaultOf store n fault clash → ((clash .number ≡ 0 → ⊥) → fault .place ≡ on-line output line (sentence true (part output line) (clash .fact))) → Answers (Behind program output line places P I) places a left

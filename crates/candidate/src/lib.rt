@@ -1,10 +1,11 @@
 // A candidate, behind a program and an output that are read: its facts go into the store; 6 and 7; 9; then the last stages.
 ghost use mathlib.Core.Path.{_≡_};
 ghost use Prim.Native.Nat.{_<_, _≤_};
-ghost use lib.ListN.{length};
+ghost use lib.ListN.{length, getD};
+ghost use Rattle.tokens.specs.Place.{Countable};
 ghost use Rattle.fields.specs.Parts.{fact-place};
 ghost use Rattle.filling.specs.Filling.{FactsFillable};
-ghost use Rattle.candidate.specs.Standing.{FactsPut, WithFacts, AnswersFacts};
+ghost use Rattle.candidate.specs.Standing.{Reachable, FactsPut, WithFacts, AnswersFacts};
 use clashes::Clashing;
 use clashes::NONE;
 use fields::answer::Answer;
@@ -14,8 +15,8 @@ use fields::clash::fact_part;
 use filling::fill_facts;
 use settled::Counts;
 use settled::settled;
-use tokens::NOWHERE;
-use tokens::Place;
+use tokens::place::Place;
+use tokens::place::TEXT_START;
 
 pub mod settled;
 
@@ -28,22 +29,23 @@ pub struct Fault {
     pub place: Place,
 }
 
-// The fault of the first fact that clashes with an earlier one, by the tables of all facts' starts and lengths.
-fn fault_of(starts: &[u32], lengths: &[u32], clash: Clashing) -> Fault
-    requires { ⌜ ((clash .number ≡ 0 → ⊥) → (clash .fact < length (now starts)) × (clash .fact < length (now lengths))) ⌝ }
-    ensures { λ f. ⌜ (f .number ≡ clash .number) × ((clash .number ≡ 0 → ⊥) → f .place ≡ fact-place (now (starts .entry)) (now (lengths .entry)) (clash .fact)) ⌝ }
+// The fault of the first fact that clashes with an earlier one, by the facts' line and the tables of all their starts and lengths.
+fn fault_of(line: Place, starts: &[u32], lengths: &[u32], clash: Clashing) -> Fault
+    requires { ⌜ ((clash .number ≡ 0 → ⊥) → (clash .fact < length (now starts)) × (clash .fact < length (now lengths)) × Countable line (getD (now starts) (clash .fact) 0)) ⌝ }
+    ensures { λ f. ⌜ (f .number ≡ clash .number) × ((clash .number ≡ 0 → ⊥) → f .place ≡ fact-place line (now (starts .entry)) (now (lengths .entry)) (clash .fact)) ⌝ }
 {
     let number = clash.number;
     if number == NONE {
-        let place = NOWHERE;
+        let place = TEXT_START;
         return Fault { number, place };
     }
-    let place = fact_part(starts, lengths, clash.fact);
+    let place = fact_part(line, starts, lengths, clash.fact);
     Fault { number, place }
 }
 
 // The facts are put into the store, with their chains; the fault is that of the first one that clashes with an earlier one.
 pub fn put_facts(
+    line: Place,
     facts: &[u64],
     predicates: &[u64],
     starts: &[u32],
@@ -51,11 +53,11 @@ pub fn put_facts(
     count: usize,
     store: &mut [u64],
 ) -> Fault
-    requires { ⌜ FactsFillable (now facts) (now predicates) count (now store) × (count ≤ length (now starts)) × (count ≤ length (now lengths)) ⌝ }
-    ensures { λ f. ⌜ FactsPut (now (facts .entry)) (now (starts .entry)) (now (lengths .entry)) count (now (store .entry)) (now (store .exit)) f ⌝ }
+    requires { ⌜ FactsFillable (now facts) (now predicates) count (now store) × (count ≤ length (now starts)) × (count ≤ length (now lengths)) × Reachable line (now starts) count ⌝ }
+    ensures { λ f. ⌜ FactsPut line (now (facts .entry)) (now (starts .entry)) (now (lengths .entry)) count (now (store .entry)) (now (store .exit)) f ⌝ }
 {
     let clash = fill_facts(facts, predicates, count, store);
-    fault_of(starts, lengths, clash)
+    fault_of(line, starts, lengths, clash)
 }
 
 // The answer for a store that stands for the program and for the facts of a line, with the fault of the first fact that has one.
@@ -76,7 +78,7 @@ pub fn with_facts<'a>(
         return refused(fault.number, Text::Output, place);
     }
     if places.len() < counts.facts {
-        return refused(SHORT, Text::Output, NOWHERE);
+        return refused(SHORT, Text::Output, TEXT_START);
     }
     settled(program, output, names, store, counts, places)
 }

@@ -1,13 +1,17 @@
 -- The facts of an output that is read: they go into the store, and what is answered to them is the answer.
-use mathlib.Core.Path.{_≡_, ap₂, _∙_}
+use mathlib.Core.Path.{_≡_, _∙_}
 use mathlib.Core.Bool.{Bool, true, false, not}
 use mathlib.Core.List.{List}
-use Prim.Native.Nat.{ℕ, _≤_}
+use Prim.Native.Nat.{ℕ, _+_, _≤_}
 use native.Mathlib.Omega.{arith}
-use lib.ListN.{length}
+use lib.ListN.{length, length-take, length-drop}
+use Rattle.tokens.specs.declared.place.Place.{Place}
+use Rattle.output.proofs.Stages.{counted-on-line}
+use Rattle.rule_places.proofs.Inside.{sentence-inside}
+use Rattle.tokens.proofs.Counting.{countable}
 use Rattle.tokens.specs.Sizes.{most-text}
 use Rattle.tokens.specs.Tokens.{part}
-use Rattle.tokens.specs.Places.{place-from}
+use Rattle.tokens.specs.Place.{with-len, along}
 use Rattle.meaning.specs.Rules.{Bytes, Rule}
 use Rattle.meaning.specs.Values.{Value}
 use Rattle.grammar.specs.Trees.{Program}
@@ -29,7 +33,7 @@ use Rattle.fields.specs.declared.answer.Answer.{Answer}
 use Rattle.fields.specs.Checked.{Answers}
 use Rattle.candidate.specs.declared.settled.Counts.{Counts}
 use Rattle.candidate.specs.declared.Fault.{Fault}
-use Rattle.candidate.specs.Standing.{RulesStand, RulesHeld, Held, InStore, FaultOf, FactsPut, WithFacts, AnswersFacts}
+use Rattle.candidate.specs.Standing.{RulesStand, RulesHeld, Held, InStore, FaultOf, FactsPut, WithFacts, AnswersFacts, Reachable}
 use Rattle.checker.specs.Standing.{WithRules, BehindProgram}
 use Rattle.checker.proofs.Ways.{by-candidate}
 
@@ -46,16 +50,34 @@ module _ (program output : Bytes) where
   -- ---- behind ANSWER
 
   module _ (t : OutputTables) (s : OutputRead) (u : OutputTables) (read : FillsOutput program output t s u) (y : s .code ≡ 0) (e : s .word ≡ words.Answer) where
-    answering : Answering program output (s .count) t u
+    answering : Answering program output (s .line) (s .count) t u
     answering = output-answers program output t s u read y e
 
+    line : Place
+    line = answering .line
+
+    -- where fact k stands on the line, which has no newline
+    fact-on : ℕ → Place
+    fact-on k = sentence true (part output line) k
+
+    on-the-line : (k : ℕ) → fact-on k .start ≤ line .len
+    unfolding line fact-on
+    on-the-line k = let i = sentence-inside true (part output line) k in let l : length (part output line) ≤ line .len = simp (length-take, length-drop) (omega arith) in omega arith
+
+    reachable : Reachable (s .line) (u .starts) (s .count)
+    unfolding line fact-on
+    reachable k h =
+        let o = handed-on output (answering .stage) in
+        rw (answering .line-is, answering .held .starts-hold .first k h)
+        (countable output line (o .straight .stands) (line .start + fact-on k .start) (omega arith) (omega (arith, on-the-line k, o .inside)) (omega (arith, o .size)))
+
     -- the tables have their places, and so have the facts
-    pub puttable : (store : List ℕ) → length store ≡ store-size → length (u .facts) ≡ facts-size → length (u .starts) ≡ 1_024 → length (u .lengths) ≡ 1_024 → FactsFillable (u .facts) (u .predicates) (s .count) store × (s .count ≤ length (u .starts)) × (s .count ≤ length (u .lengths))
+    pub puttable : (store : List ℕ) → length store ≡ store-size → length (u .facts) ≡ facts-size → length (u .starts) ≡ 1_024 → length (u .lengths) ≡ 1_024 → FactsFillable (u .facts) (u .predicates) (s .count) store × (s .count ≤ length (u .starts)) × (s .count ≤ length (u .lengths)) × Reachable (s .line) (u .starts) (s .count)
     puttable store long wide starts lengths =
         let f = answering .held in
-        (record { long = long; wide = wide; table = f .table; are-predicates = f .are-predicates }, omega (arith, f .table .few, starts), omega (arith, f .table .few, lengths))
+        (record { long = long; wide = wide; table = f .table; are-predicates = f .are-predicates }, omega (arith, f .table .few, starts), omega (arith, f .table .few, lengths), reachable)
 
-    module _ (store store′ : List ℕ) (fault : Fault) (put : FactsPut (u .facts) (u .starts) (u .lengths) (s .count) store store′ fault) (total : ℕ) where
+    module _ (store store′ : List ℕ) (fault : Fault) (put : FactsPut (s .line) (u .facts) (u .starts) (u .lengths) (s .count) store store′ fault) (total : ℕ) where
       abbrev counts : Counts
       counts = record { facts = s .count; rules = total }
 
@@ -74,11 +96,15 @@ module _ (program output : Bytes) where
           record { program-rules = P; candidate = facts-for (answering .tree-of); long = put .filled .long; stands = in-store P (w .held (handed-on output (answering .stage) .size)); clash = put .clash; fault-of = faulty }
 
       -- the place of a fact that clashes, in the output
-      placed : (put .clash .number ≡ 0 → ⊥) → fault .place ≡ on-line (answering .line) (sentence true (part output (answering .line)) (put .clash .fact))
+      placed : (put .clash .number ≡ 0 → ⊥) → fault .place ≡ on-line output (answering .line) (sentence true (part output (answering .line)) (put .clash .fact))
+      unfolding line fact-on
       placed z =
           let f = answering .held in
           let here = put .filled .clash (names-of program output (u .names)) .here z .0 in
-          put .placed z ∙ ap₂ place-from (f .starts-hold .first (put .clash .fact) here) (f .lengths-hold .first (put .clash .fact) here)
+          let k = put .clash .fact in
+          put .placed z
+          ∙ (λ i. with-len (along (answering .line-is i) (f .starts-hold .first k here i)) (f .lengths-hold .first k here i))
+          ∙ counted-on-line output line (handed-on output (answering .stage) .straight) (fact-on k) (on-the-line k)
 
       module _ (code : ℕ) (places : List ℕ) (c : Program false) (held : length output ≤ most-text → RulesHeld program output (t .names) (rules-in store) (literals-in store) total (rules-for c)) (b : Bool) (agreeing : b ≡ agrees (s .word) code) (n : not b ≡ false) where
         pub candidate-answer : (a : Answer) (left : List ℕ) → AnswersFacts program output (u .names) store′ counts fault places a left → Answers (BehindProgram program output code places c) places a left

@@ -1,36 +1,34 @@
 -- Room for the names of both texts, and an output cut to its size while the program is read.
-use mathlib.Core.Path.{_≡_, ap, ap₂, _∙_}
-use mathlib.Core.Bool.{true, false}
-use mathlib.Core.List.{List, _++_}
-use Prim.Native.Nat.{ℕ, _≤_, _<_}
+use mathlib.Core.Path.{_≡_, ap, _∙_}
+use mathlib.Core.List.{List}
+use Prim.Native.Nat.{ℕ, _≤_}
 use native.Mathlib.Omega.{arith}
 use lib.ListN.{length, length-take}
 use lib.Seq.{take-all}
-use Rattle.tokens.specs.declared.Place.{Place}
-use Rattle.tokens.specs.Tokens.{part}
+use Rattle.tokens.specs.declared.place.Span.{Span}
+use Rattle.tokens.specs.Tokens.{bytes-in}
 use Rattle.tokens.specs.Sizes.{most-text}
-use Rattle.tokens.specs.Places.{place-from}
+use Rattle.tokens.specs.Places.{span-from}
 use Rattle.meaning.specs.Rules.{Bytes}
 use Rattle.names.specs.Table.{most-names, few-names}
 use Rattle.names.specs.Numbering.{Empty}
-use Rattle.rows.specs.Growth.{Room}
 use Rattle.store.specs.Store.{store-size}
 use Rattle.filling.specs.Filling.{RulesFillable}
 use Rattle.checker.specs.Standing.{names-of-both}
 
 -- ---- an output cut to its size
 
-abbrev pub whole-size : Place
-whole-size = place-from 0 most-text
+abbrev pub whole-size : Span
+whole-size = span-from 0 most-text
 
-cut-small : (output : Bytes) → length (part output whole-size) ≤ most-text
+cut-small : (output : Bytes) → length (bytes-in output whole-size) ≤ most-text
 cut-small output = simp length-take (omega arith)
 
-pub cut-whole : (output : Bytes) → length output ≤ most-text → part output whole-size ≡ output
+pub cut-whole : (output : Bytes) → length output ≤ most-text → bytes-in output whole-size ≡ output
 cut-whole output h = take-all most-text output h
 
-pub cut-at : (output : Bytes) {within : Bytes} {p : Place} → within ≡ part output p → p ≡ whole-size → within ≡ part output whole-size
-cut-at output e q = e ∙ ap (part output) q
+pub cut-at : (output : Bytes) {within : Bytes} {span : Span} → within ≡ bytes-in output span → span ≡ whole-size → within ≡ bytes-in output whole-size
+cut-at output e q = e ∙ ap (bytes-in output) q
 
 module _ (program output : Bytes) where
   -- ---- room for the names of both
@@ -47,7 +45,7 @@ module _ (program output : Bytes) where
   -- ---- the program's rules
 
   -- what is asked, of a table without names
-  pub program-readable : (names store : List ℕ) → Empty (names-of-both program output) names → (within : Bytes) → within ≡ part output whole-size → length store ≡ store-size → RulesFillable program within names store
+  pub program-readable : (names store : List ℕ) → Empty (names-of-both program output) names → (within : Bytes) → within ≡ bytes-in output whole-size → length store ≡ store-size → RulesFillable program within names store
   program-readable names store empty within e long =
       record {
         room = λ size. record { in-order = empty .in-order program within size (rw e (cut-small output)); room = let r = empty .room in rw (empty .no-names program within) (omega arith) };

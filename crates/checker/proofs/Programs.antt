@@ -1,26 +1,19 @@
 -- What a caller makes of a program that has been read into its tables.
-use mathlib.Core.Path.{_≡_, refl, sym as inv, ap, _∙_}
+use mathlib.Core.Path.{_≡_, refl, ap, _∙_}
 use mathlib.Core.Bool.{false}
 use mathlib.Core.List.{List}
 use Prim.Native.Nat.{ℕ}
 use native.Mathlib.Omega.{arith}
 use Rattle.meaning.specs.Rules.{Bytes}
 use Rattle.grammar.specs.Trees.{Program}
-use Rattle.stages.specs.Parts.{Part, program, in-text}
-use Rattle.stages.specs.Stage.{Outcome, on, stop, stops, goes, given, first, fault}
-use Rattle.stages.proofs.Unique.{on-stop}
+use Rattle.stages.specs.Parts.{program, in-text}
+use Rattle.stages.specs.Stage.{Outcome, on, stop}
 use Rattle.program.specs.declared.ProgramRead.{ProgramRead}
 use Rattle.program.specs.Stage.{ProgramStage}
 use Rattle.program.specs.Rules.{FillsRules}
 use Rattle.program.specs.Answer.{fields, ReadsProgram}
 use Rattle.program.proofs.Taken.{refused-between}
-
--- a refusal's part is a part of the program
-program-part : (text : Bytes) (n : ℕ) (p : Part) → ProgramStage text (stop n p) → in-text program (p .place) ≡ p
-program-part text n p (stops _ _ (given h)) = refl
-program-part text n p (goes u _ h (stops _ _ (fault _ q k))) = refl
-program-part text n p (goes u _ h (goes c _ k (stops _ _ (first i _ x f)))) = refl
-program-part text n p (goes u _ h (goes c _ k (goes v _ l e))) = absurd (on-stop (inv e))
+use Rattle.program.proofs.Placed.{refused-placed}
 
 module _ (text the-output : Bytes) (names rules literals : List ℕ) (r : ProgramRead) (names′ rules′ literals′ : List ℕ) (g : ReadsProgram text the-output names rules literals r names′ rules′ literals′) where
   -- a number is that of a refusal
@@ -30,7 +23,7 @@ module _ (text the-output : Bytes) (names rules literals : List ℕ) (r : Progra
     where
       go : (o : Outcome (Program false)) → ProgramStage text o → r ≡ fields o → ProgramStage text (stop (r .code) (in-text program (r .place)))
       go (on c) h e = absurd (z (ap (λ (x : ProgramRead). x .code) e))
-      go (stop n p) h e = rw (e, program-part text n p h) h
+      go (stop n p) h e = rw (e, ← (refused-placed text n p h .within)) h
 
   -- without one the tables hold the rules of some program
   pub record RulesRead : Type 0 where

@@ -5,7 +5,7 @@ use mathlib.Core.List.{List, _++_}
 use Prim.Native.Nat.{ℕ, _≤_}
 use native.Mathlib.Omega.{arith}
 use lib.ListN.{length}
-use Rattle.tokens.specs.Tokens.{part}
+use Rattle.tokens.specs.Tokens.{bytes-in}
 use Rattle.tokens.specs.Sizes.{most-text}
 use Rattle.meaning.specs.Rules.{Bytes}
 use Rattle.grammar.specs.Trees.{Program}
@@ -44,7 +44,7 @@ module _ (program output : Bytes) where
           omega (arith, ap length grown, fills .grows .few)
 
     -- what was promised of the output's cut holds of the output, where it is within its size
-    module _ (within : Bytes) (e : within ≡ part output whole-size) (fills : FillsRules program within names rules literals c total names′ rules′ literals′) where
+    module _ (within : Bytes) (e : within ≡ bytes-in output whole-size) (fills : FillsRules program within names rules literals c total names′ rules′ literals′) where
       of-output : length output ≤ most-text → FillsRules program output names rules literals c total names′ rules′ literals′
       of-output size = rw (e ∙ cut-whole output size) at fills
 
@@ -56,7 +56,7 @@ module _ (program output : Bytes) where
 
   -- ---- what `fill_rules` leaves
 
-  module _ (names store : List ℕ) (empty : Empty (names-of-both program output) names) (within : Bytes) (e : within ≡ part output whole-size) (r : ProgramRead) (names′ store′ : List ℕ) (filled : RulesFilled program within names store r names′ store′) where
+  module _ (names store : List ℕ) (empty : Empty (names-of-both program output) names) (within : Bytes) (e : within ≡ bytes-in output whole-size) (r : ProgramRead) (names′ store′ : List ℕ) (filled : RulesFilled program within names store r names′ store′) where
     read : r .code ≡ 0 → RulesRead program within names (filled .rules-before) (literals-in store) r names′ (rules-in store′) (literals-in store′) (filled .reads)
     read = program-read program within names (filled .rules-before) (literals-in store) r names′ (rules-in store′) (literals-in store′) (filled .reads)
 

@@ -5,8 +5,8 @@ use mathlib.Core.List.{List}
 use Prim.Native.Nat.{ℕ}
 use borrow.Author.Tests.{eqb-true, eq-eqb}
 use lib.Dec.{eqb}
-use Rattle.tokens.specs.declared.Place.{Place}
-use Rattle.tokens.specs.Places.{nowhere}
+use Rattle.tokens.specs.declared.place.Place.{Place}
+use Rattle.tokens.specs.Place.{text-start}
 use Rattle.meaning.specs.Rules.{Bytes}
 use Rattle.meaning.proofs.Booleans.{not-true, not-false}
 use Rattle.grammar.specs.Trees.{Program}
@@ -65,7 +65,7 @@ module _ (the-program the-output : Bytes) (code : ℕ) (places : List ℕ) where
       report-of words.Unknown h = (claim-unknown, h, refl)
 
       -- code and report disagree
-      pub by-code : (b : Bool) → b ≡ agrees (s .word) code → not b ≡ true → (a : Answer) → a ≡ refused 10 InOutput nowhere → Here a places
+      pub by-code : (b : Bool) → b ≡ agrees (s .word) code → not b ≡ true → (a : Answer) → a ≡ refused 10 InOutput text-start → Here a places
       by-code b agreeing n a e =
           let x = report-of (s .word) (output-says the-output s read y) in
           refuses _ places _ InOutput _ (goes (x .0) _ (x .1) (stops _ _ (given (λ f. true≢false (inv (eq-eqb code (code-of (x .0)) f) ∙ inv (x .2) ∙ inv agreeing ∙ not-true b n))))) a e

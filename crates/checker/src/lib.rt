@@ -10,7 +10,8 @@ use filling::empty_store;
 use filling::fill_rules;
 use names::SMALL_TEXT;
 use reported::reported;
-use tokens::place_from;
+use tokens::parts::bytes_in;
+use tokens::place::span_from;
 use tokens::sizes::MOST_TEXT;
 
 mod reported;
@@ -28,7 +29,7 @@ fn with_names<'a>(
 {
     let mut store = empty_store();
     // The size of the output is not known yet, and no name is looked for behind its size.
-    let within = tokens::parts::part(output, place_from(0, MOST_TEXT));
+    let within = bytes_in(output, span_from(0, MOST_TEXT));
     let read = fill_rules(program, within, names, &mut store);
     if read.code != 0 {
         let place = read.place;

@@ -12,7 +12,7 @@ use output::read_output;
 use report::word::Word;
 use report::word::agrees;
 use tables::FACT;
-use tokens::NOWHERE;
+use tokens::place::TEXT_START;
 use tokens::sizes::MOST_FACTS;
 
 // The refusal where the solver's code and its report disagree.
@@ -53,16 +53,17 @@ pub fn reported<'a>(
     );
     let place = read.place;
     let word = read.word;
+    let line = read.line;
     if read.code != 0 {
         return refused(read.code, Text::Output, place);
     }
     if !agrees(word, code) {
-        return refused(DISAGREE, Text::Output, NOWHERE);
+        return refused(DISAGREE, Text::Output, TEXT_START);
     }
     match word {
         Word::Answer => {
             let count = read.count;
-            let fault = put_facts(&facts, &predicates, &starts, &lengths, count, store);
+            let fault = put_facts(line, &facts, &predicates, &starts, &lengths, count, store);
             let counts = Counts {
                 facts: count,
                 rules: total,

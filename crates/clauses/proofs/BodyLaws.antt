@@ -9,8 +9,9 @@ use native.Mathlib.Omega.{arith}
 use native.Mathlib.Numerals.{add-one}
 use lib.Dec.{leb}
 use lib.ListN.{length, length-append}
+use Rattle.tokens.specs.Place.{Stands}
 use borrow.Author.Tests.{ne-eqb, leb-false}
-use Rattle.tokens.specs.declared.Place.{Place}
+use Rattle.tokens.specs.declared.place.Place.{Place}
 use Rattle.tokens.specs.Places.{places-in}
 use Rattle.tokens.specs.Tokens.{part}
 use Rattle.reading.specs.Machine.{walk}
@@ -36,14 +37,14 @@ use Rattle.tables.proofs.Stored.{put-kept-of, put-part-of, kept-self, kept-then
 use Rattle.tables.proofs.Strides.{from-same, from-last}
 use Rattle.syntax.specs.declared.token.TokenRead.{TokenRead}
 use Rattle.syntax.specs.declared.separator.SeparatorRead.{SeparatorRead}
-use Rattle.syntax.specs.Text.{token-of, placed-from, end-of, tokenRead}
+use Rattle.syntax.specs.Text.{token-of, placed-from, end-of, tokenRead, next-of}
 use Rattle.syntax.specs.Variables.{variables-of, Fits}
 use Rattle.syntax.specs.Ahead.{wants, wanting, from}
 use Rattle.syntax.specs.Fills.{read, stopped}
 use Rattle.syntax.specs.Arguments.{Separates, comma, last, neither}
 use Rattle.syntax.specs.Builtins.{behind-literal}
 use Rattle.syntax.specs.Literals.{LiteralPlace}
-use Rattle.syntax.proofs.Tokens.{token-by, within, forward}
+use Rattle.syntax.proofs.Tokens.{token-by, forward, past-here}
 use Rattle.syntax.proofs.Steps.{same-walk, meets-none, on-kind, wrong-token, dot-token}
 use Rattle.syntax.proofs.Sizes.{fault-none}
 use Rattle.syntax.proofs.Lists.{too-many-next, met-then}
@@ -71,24 +72,24 @@ literals-many vs empty = refl
 literals-many vs (ls then l) = length-append (literals-for vs ls) (literal-for (met vs (with-commas spell-nth-literal ls)) l ∷ []) ∙ add-one _ ∙ ap suc (literals-many vs ls)
 
 -- the cursor where the next literal stands
-abbrev pub at-literal : Cursor → ℕ → ℕ → ℕ → Cursor
+abbrev pub at-literal : Cursor → Place → ℕ → ℕ → Cursor
 at-literal k at met n = onward k at (leb 16 n) met
 
-pub record Going (program output : Bytes) (names₀ variables₀ literals₀ : List ℕ) (k : Cursor) (first : ℕ) (names variables literals : List ℕ) (at met₁ n : ℕ) : Type 0 where
+pub record Going (program output : Bytes) (names₀ variables₀ literals₀ : List ℕ) (k : Cursor) (first : ℕ) (names variables literals : List ℕ) (at : Place) (met₁ n : ℕ) : Type 0 where
   pub fits : Fits (places-in variables met₁)
   pub few : n ≤ most-literals
   pub names-long : length names ≡ length names₀
   pub long : length variables ≡ length variables₀
   pub literals-long : length literals ≡ length literals₀
-  pub onward : k .at ≤ at
-  pub within-text : at ≤ length program
-  pub grows : Grows program output names₀ (at - k .at) names
+  pub onward : k .at .start ≤ at .start
+  pub placed : Stands program at
+  pub grows : Grows program output names₀ (at .start - k .at .start) names
   pub kept : Kept (first * literal-stride) ((first + most-literals) * literal-stride) literals₀ literals
   pub before : Sequence (LiteralTree false)
   pub size : count before ≡ n
   pub coded : Pairwise (CodedLiteral (names-of program output names)) (tables.from (row-at literals) n first) (literals-for (variables-of program (met-before variables₀ k)) before)
   pub variables-met : met (variables-of program (met-before variables₀ k)) (with-commas spell-nth-literal before) ≡ variables-of program (places-in variables met₁)
-  pub walks : (p : Program false) (h : Option (AtomTree false)) → from false program (wants (atom-wanted (literal-in (new-body tt p h)))) (met-before variables₀ k) (k .at) ≡ from false program (wants (atom-wanted (literal-in (body-with p h before)))) (places-in variables met₁) at
+  pub walks : (p : Program false) (h : Option (AtomTree false)) → from false program (wants (atom-wanted (literal-in (new-body tt p h)))) (met-before variables₀ k) (k .at .start) ≡ from false program (wants (atom-wanted (literal-in (body-with p h before)))) (places-in variables met₁) (at .start)
 
 pub going-start : (program output : Bytes) (names variables literals : List ℕ) (k : Cursor) (first : ℕ) → ReadyBody program output names variables literals k first → Going program output names variables literals k first names variables literals (k .at) (k .met) 0
 unfolding count literals-for met with-commas tables.from
@@ -100,7 +101,7 @@ going-start program output names variables literals k first asked =
       long = refl;
       literals-long = refl;
       onward = omega arith;
-      within-text = asked .ready .ready .inside;
+      placed = asked .ready .ready .stands;
       grows = grows-none program output names _ (asked .ready .ready .room .in-order);
       kept = kept-self (first * literal-stride) ((first + most-literals) * literal-stride) literals;
       before = empty;
@@ -110,13 +111,13 @@ going-start program output names variables literals k first asked =
       walks = λ p h. refl;
     }
 
-module _ (program output : Bytes) (names₀ variables₀ literals₀ : List ℕ) (k : Cursor) (first : ℕ) (names variables literals : List ℕ) (at met₁ n : ℕ) (g : Going program output names₀ variables₀ literals₀ k first names variables literals at met₁ n) where
+module _ (program output : Bytes) (names₀ variables₀ literals₀ : List ℕ) (k : Cursor) (first : ℕ) (names variables literals : List ℕ) (at : Place) (met₁ n : ℕ) (g : Going program output names₀ variables₀ literals₀ k first names variables literals at met₁ n) where
   abbrev v₀ : List Place
   v₀ = met-before variables₀ k
 
   -- there is room behind what has been read
   pub going-ready : ReadyBody program output names₀ variables₀ literals₀ k first → (over : Bool) → ReadyBehind program output names variables (onward k at over met₁)
-  going-ready asked over = record { ready = ready-on (asked .ready .ready) (onward k at over met₁) refl (g .grows) (g .onward) (g .within-text) (fits-met variables met₁ (g .fits)) (g .long); in-program = asked .ready .in-program }
+  going-ready asked over = record { ready = ready-on (asked .ready .ready) (onward k at over met₁) refl (g .grows) (g .onward) (g .placed) (fits-met variables met₁ (g .fits)) (g .long); in-program = asked .ready .in-program }
 
   module _ (r : LiteralRead) (names′ variables′ : List ℕ) (gr : ReadsLiteral program output names variables (at-literal k at met₁ n) r names′ variables′) where
     place : Program false → Option (AtomTree false) → LiteralPlace (leb 16 n)
@@ -145,13 +146,13 @@ module _ (program output : Bytes) (names₀ variables₀ literals₀ : List ℕ)
         pub record Grown : Type 0 where
           pub fits : Fits (places-in variables′ (r .met))
           pub one : LiteralTree false
-          pub onward : at ≤ r .progress .next
-          pub within-text : r .progress .next ≤ length program
-          pub grows : Grows program output names₀ (r .progress .next - k .at) names′
+          pub onward : at .start ≤ r .progress .place .start
+          pub placed : Stands program (r .progress .place)
+          pub grows : Grows program output names₀ (r .progress .place .start - k .at .start) names′
           pub kept : Kept (first * literal-stride) ((first + most-literals) * literal-stride) literals₀ literals′
           pub coded : Pairwise (CodedLiteral (names-of program output names′)) (tables.from (row-at literals′) (n + 1) first) (literals-for (variables-of program v₀) (g .before then one))
           pub variables-met : met (variables-of program v₀) (with-commas spell-nth-literal (g .before then one)) ≡ variables-of program (places-in variables′ (r .met))
-          pub walks : (p : Program false) (h : Option (AtomTree false)) → from false program (wants (atom-wanted (literal-in (new-body tt p h)))) v₀ (k .at) ≡ from false program (behind-literal (body-with p h (g .before)) one) (places-in variables′ (r .met)) (r .progress .next)
+          pub walks : (p : Program false) (h : Option (AtomTree false)) → from false program (wants (atom-wanted (literal-in (new-body tt p h)))) v₀ (k .at .start) ≡ from false program (behind-literal (body-with p h (g .before)) one) (places-in variables′ (r .met)) (r .progress .place .start)
 
         room-here : (first + n) * literal-stride + length (r .row) ≤ length literals
         room-here = let y = going-fits long in omega arith
@@ -178,17 +179,17 @@ module _ (program output : Bytes) (names₀ variables₀ literals₀ : List ℕ)
                   fits = f;
                   one = x;
                   onward = b;
-                  within-text = l;
-                  grows = grows-then program output (g .grows) (r .progress .next - k .at) (s .grows) (let y = g .onward in omega arith);
+                  placed = l;
+                  grows = grows-then program output (g .grows) (r .progress .place .start - k .at .start) (s .grows) (let y = g .onward in omega arith);
                   kept = kept-then (g .kept) (kept-wider changed (first * literal-stride) ((first + most-literals) * literal-stride) (omega arith) (let y = going-room in omega arith));
                   coded = rw (rows, g .variables-met) (pairwise-append (pairwise-more _ (λ a y z. record { related = keeps-literal program output (s .grows) _ _ (z .related); side = z .side }) (g .coded)) (pair (s .coded) end));
                   variables-met = met-then spell-nth-literal (variables-of program v₀) (g .before) x ∙ rw (g .variables-met) (met-literal (literal (suc (count (g .before)))) inside (variables-of program (places-in variables met₁)) x ∙ m);
                   walks = λ p h. g .walks p h ∙ q (place p h);
                 }
 
-        module _ (d : SeparatorRead) (gd : Separates false program (r .progress .next) 8 d) where
+        module _ (d : SeparatorRead) (gd : Separates false program (r .progress .place .start) 8 d) where
           abbrev t : TokenRead
-          t = tokenRead false program (r .progress .next)
+          t = tokenRead false program (r .progress .place .start)
 
           abbrev v′ : List Place
           v′ = places-in variables′ (r .met)
@@ -198,31 +199,31 @@ module _ (program output : Bytes) (names₀ variables₀ literals₀ : List ℕ)
           unfolding after-literal try-number fire-number either when symbol-number
           going-wrong names″ variables″ literals″ ne w ew = rw ew (go gd)
             where
-              go : Separates false program (r .progress .next) 8 d → FillsBody program output names₀ variables₀ literals₀ k first (stoppedBody (d .progress .code) (d .progress .place) (r .met)) names″ variables″ literals″
+              go : Separates false program (r .progress .place .start) 8 d → FillsBody program output names₀ variables₀ literals₀ k first (stoppedBody (d .progress .code) (d .progress .place) (r .met)) names″ variables″ literals″
               go (comma y q) = absurd (ne (rw q))
               go (last x y q) = absurd (ne (rw q))
-              go (neither y l q) = rw q (FillsBody.stopped (omega arith) (λ p h. ap (λ a. a .answer) (grown .walks p h) ∙ wrong-token false program (r .progress .next) t refl (behind-literal (body-with p h (g .before)) (grown .one)) v′ (rw (ne-eqb (t .kind) 7 y, ne-eqb (t .kind) 8 l)) (λ z. refl)))
+              go (neither y l q) = rw q (FillsBody.stopped (omega arith) (λ p h. ap (λ a. a .answer) (grown .walks p h) ∙ wrong-token false program (r .progress .place .start) t refl (behind-literal (body-with p h (g .before)) (grown .one)) v′ (rw (ne-eqb (t .kind) 7 y, ne-eqb (t .kind) 8 l)) (λ z. refl)))
 
-          behind : (j : ℕ) → t .kind ≡ j → (j ≡ 20 → ⊥) → r .progress .next ≤ t .next
-          behind j y nj = let l = forward false program (r .progress .next) t refl (λ q. nj (inv y ∙ q)) in omega arith
+          behind : (j : ℕ) → t .kind ≡ j → (j ≡ 20 → ⊥) → r .progress .place .start ≤ next-of t
+          behind j y nj = let l = forward false program (r .progress .place .start) t refl (λ q. nj (inv y ∙ q)) in omega arith
 
           -- the last literal
-          pub going-end : d .progress .code ≡ 0 → d .last ≡ true → (w : BodyRead) → w ≡ goneBody (n + 1) (d .progress .next) (r .met) → FillsBody program output names₀ variables₀ literals₀ k first w names′ variables′ literals′
+          pub going-end : d .progress .code ≡ 0 → d .last ≡ true → (w : BodyRead) → w ≡ goneBody (n + 1) (d .progress .place) (r .met) → FillsBody program output names₀ variables₀ literals₀ k first w names′ variables′ literals′
           unfolding after-literal try fire either when symbol-number too-big too-long too-many too-many-variables is-underscore count
           going-end z l w ew = rw ew (go gd)
             where
               many : n + 1 ≡ suc (count (g .before))
               many = add-one n ∙ ap suc (inv (g .size))
 
-              stands : (next : ℕ) → r .progress .next ≤ next → Codes program output names₀ (next - k .at) (λ ns. BodyCoded ns literals′ first (literals-for (variables-of program v₀) (g .before then grown .one))) names′
+              stands : (next : ℕ) → r .progress .place .start ≤ next → Codes program output names₀ (next - k .at .start) (λ ns. BodyCoded ns literals′ first (literals-for (variables-of program v₀) (g .before then grown .one))) names′
               stands next y =
                   let size : length (literals-for (variables-of program v₀) (g .before then grown .one)) ≡ n + 1 = literals-many (variables-of program v₀) (g .before then grown .one) ∙ inv many in
                   codes-wider _ (let a = grown .onward in let b = g .onward in omega arith) (record { grows = grown .grows; coded = rw size (grown .coded) })
 
-              dotted : t .kind ≡ 8 → (p : Program false) (h : Option (AtomTree false)) → (from false program (behind-literal (body-with p h (g .before)) (grown .one)) v′ (r .progress .next) .answer ≡ walk (language false) (wanting false) (wants (atom-wanted (head-behind (with-rule (body-with p h (g .before)) (grown .one))))) [] (end-of program) (placed-from false program (t .next))) × (from false program (behind-literal (body-with p h (g .before)) (grown .one)) v′ (r .progress .next) .firsts ≡ v′) × (from false program (behind-literal (body-with p h (g .before)) (grown .one)) v′ (r .progress .next) .rest ≡ some (placed-from false program (t .next)))
-              dotted y p h = dot-token false program (r .progress .next) t refl y (behind-literal (body-with p h (g .before)) (grown .one)) v′ (record { mark = inside; state = atom-wanted (head-behind (with-rule (body-with p h (g .before)) (grown .one))) }) refl (fault-none _ _ _ _ refl refl refl refl)
+              dotted : t .kind ≡ 8 → (p : Program false) (h : Option (AtomTree false)) → (from false program (behind-literal (body-with p h (g .before)) (grown .one)) v′ (r .progress .place .start) .answer ≡ walk (language false) (wanting false) (wants (atom-wanted (head-behind (with-rule (body-with p h (g .before)) (grown .one))))) [] (end-of program) (placed-from false program (next-of t))) × (from false program (behind-literal (body-with p h (g .before)) (grown .one)) v′ (r .progress .place .start) .firsts ≡ v′) × (from false program (behind-literal (body-with p h (g .before)) (grown .one)) v′ (r .progress .place .start) .rest ≡ some (placed-from false program (next-of t)))
+              dotted y p h = dot-token false program (r .progress .place .start) t refl y (behind-literal (body-with p h (g .before)) (grown .one)) v′ (record { mark = inside; state = atom-wanted (head-behind (with-rule (body-with p h (g .before)) (grown .one))) }) refl (fault-none _ _ _ _ refl refl refl refl)
 
-              go : Separates false program (r .progress .next) 8 d → FillsBody program output names₀ variables₀ literals₀ k first (goneBody (n + 1) (d .progress .next) (r .met)) names′ variables′ literals′
+              go : Separates false program (r .progress .place .start) 8 d → FillsBody program output names₀ variables₀ literals₀ k first (goneBody (n + 1) (d .progress .place) (r .met)) names′ variables′ literals′
               go (comma y q) = absurd (false≢true (rw q at l))
               go (neither y y′ q) = absurd (false≢true (rw q at l))
               go (last x y q) =
@@ -231,7 +232,7 @@ module _ (program output : Bytes) (names₀ variables₀ literals₀ : List ℕ)
                   (FillsBody.read refl
                   (record {
                     forward = let a = grown .onward in let c = g .onward in omega arith;
-                    inside = within false program (r .progress .next) t refl;
+                    placed = past-here false program (r .progress .place .start) t refl (λ q. refl);
                     fits = grown .fits;
                     before = g .before;
                     final = grown .one;
@@ -246,11 +247,11 @@ module _ (program output : Bytes) (names₀ variables₀ literals₀ : List ℕ)
                   }))
 
           -- a comma: one more is wanted
-          pub going-on : length names′ ≡ length names₀ → length variables′ ≡ length variables₀ → d .progress .code ≡ 0 → d .last ≡ false → Going program output names₀ variables₀ literals₀ k first names′ variables′ literals′ (d .progress .next) (r .met) (n + 1)
+          pub going-on : length names′ ≡ length names₀ → length variables′ ≡ length variables₀ → d .progress .code ≡ 0 → d .last ≡ false → Going program output names₀ variables₀ literals₀ k first names′ variables′ literals′ (d .progress .place) (r .met) (n + 1)
           unfolding after-literal try fire either when token-of symbol-number token-number too-big too-long too-many too-many-variables is-underscore meet meet-symbol count
           going-on names-long variables-long z l = go gd
             where
-              go : Separates false program (r .progress .next) 8 d → Going program output names₀ variables₀ literals₀ k first names′ variables′ literals′ (d .progress .next) (r .met) (n + 1)
+              go : Separates false program (r .progress .place .start) 8 d → Going program output names₀ variables₀ literals₀ k first names′ variables′ literals′ (d .progress .place) (r .met) (n + 1)
               go (last x y q) = absurd (true≢false (rw q at l))
               go (neither y y′ q) = let a : _≡_ {A = ℕ} 2 0 = rw q at z in absurd (omega arith)
               go (comma y q) =
@@ -263,12 +264,12 @@ module _ (program output : Bytes) (names₀ variables₀ literals₀ : List ℕ)
                     long = variables-long;
                     literals-long = grown .kept .long;
                     onward = let a = grown .onward in let c = g .onward in omega arith;
-                    within-text = within false program (r .progress .next) t refl;
+                    placed = past-here false program (r .progress .place .start) t refl (λ q. refl);
                     grows = grows-then program output (grown .grows) _ (grows-none program output names′ 0 (grown .grows .in-order)) (let a = grown .onward in let c = g .onward in omega arith);
                     kept = grown .kept;
                     before = g .before then grown .one;
                     size = ap suc (g .size) ∙ inv (add-one n);
                     coded = grown .coded;
                     variables-met = grown .variables-met;
-                    walks = λ p h. grown .walks p h ∙ on-kind false program (r .progress .next) t refl 7 y (λ a. omega arith) (behind-literal (body-with p h (g .before)) (grown .one)) v′ v′ _ refl (fault-none _ _ _ _ refl refl refl refl) (meets-none program (token-by 7 (part program (t .place))) (t .place) v′ refl refl);
+                    walks = λ p h. grown .walks p h ∙ on-kind false program (r .progress .place .start) t refl 7 y (λ a. omega arith) (behind-literal (body-with p h (g .before)) (grown .one)) v′ v′ _ refl (fault-none _ _ _ _ refl refl refl refl) (meets-none program (token-by 7 (part program (t .place))) (t .place) v′ refl refl);
                   })

@@ -5,7 +5,8 @@ use mathlib.Core.Option.{Option, some}
 use mathlib.Core.List.{List, _++_}
 use Prim.Native.Nat.{ℕ, suc, _+_, _-_, _*_, _≤_}
 use lib.ListN.{length}
-use Rattle.tokens.specs.declared.Place.{Place}
+use Rattle.tokens.specs.Place.{Stands}
+use Rattle.tokens.specs.declared.place.Place.{Place}
 use Rattle.tokens.specs.Places.{places-in}
 use Rattle.reading.specs.Reading.{refused}
 use Rattle.meaning.specs.Rules.{Bytes}
@@ -39,29 +40,29 @@ pub record ReadyBody (program output : Bytes) (names variables literals : List �
 
 -- the literals that were read, and their rows from `first` on
 pub record Body (program output : Bytes) (names variables literals : List ℕ) (k : Cursor) (first : ℕ) (r : BodyRead) (names′ variables′ literals′ : List ℕ) : Type 0 where
-  pub forward : k .at ≤ r .progress .next
-  pub inside : r .progress .next ≤ length program
+  pub forward : k .at .start ≤ r .progress .place .start
+  pub placed : Stands program (r .progress .place)
   pub fits : Fits (places-in variables′ (r .met))
   pub before : Sequence (LiteralTree false)
   pub final : LiteralTree false
   pub size : r .count ≡ suc (count before)
   pub few : r .count ≤ most-literals
   pub kept : Kept (first * literal-stride) ((first + most-literals) * literal-stride) literals literals′
-  pub stands : Codes program output names (r .progress .next - k .at) (λ ns. BodyCoded ns literals′ first (literals-for (variables-of program (met-before variables k)) (before then final))) names′
+  pub stands : Codes program output names (r .progress .place .start - k .at .start) (λ ns. BodyCoded ns literals′ first (literals-for (variables-of program (met-before variables k)) (before then final))) names′
   pub variables-met : met (variables-of program (met-before variables k)) (with-commas spell-nth-literal (before then final)) ≡ variables-of program (places-in variables′ (r .met))
-  pub walks : (p : Program false) (h : Option (AtomTree false)) → from false program (wants (atom-wanted (literal-in (new-body tt p h)))) (met-before variables k) (k .at) .answer ≡ behind-rules false program (p then clause tt h before final) (r .progress .next)
-  pub firsts : met-before variables k ++ firsts (variables-of program (met-before variables k)) (placed-from false program (k .at)) ≡ places-in variables′ (r .met)
-  pub rest : behind-dot (placed-from false program (k .at)) ≡ some (placed-from false program (r .progress .next))
+  pub walks : (p : Program false) (h : Option (AtomTree false)) → from false program (wants (atom-wanted (literal-in (new-body tt p h)))) (met-before variables k) (k .at .start) .answer ≡ behind-rules false program (p then clause tt h before final) (r .progress .place .start)
+  pub firsts : met-before variables k ++ firsts (variables-of program (met-before variables k)) (placed-from false program (k .at .start)) ≡ places-in variables′ (r .met)
+  pub rest : behind-dot (placed-from false program (k .at .start)) ≡ some (placed-from false program (r .progress .place .start))
 
 -- a body, or a refusal
 pub data FillsBody (program output : Bytes) (names variables literals : List ℕ) (k : Cursor) (first : ℕ) (r : BodyRead) (names′ variables′ literals′ : List ℕ) : Type 0 where
   read : r .progress .code ≡ 0 → Body program output names variables literals k first r names′ variables′ literals′ → FillsBody program output names variables literals k first r names′ variables′ literals′
-  stopped : 2 ≤ r .progress .code → ((p : Program false) (h : Option (AtomTree false)) → from false program (wants (atom-wanted (literal-in (new-body tt p h)))) (met-before variables k) (k .at) .answer ≡ refused (r .progress .code) (r .progress .place)) → FillsBody program output names variables literals k first r names′ variables′ literals′
+  stopped : 2 ≤ r .progress .code → ((p : Program false) (h : Option (AtomTree false)) → from false program (wants (atom-wanted (literal-in (new-body tt p h)))) (met-before variables k) (k .at .start) .answer ≡ refused (r .progress .code) (r .progress .place)) → FillsBody program output names variables literals k first r names′ variables′ literals′
 
 -- ---- what the parts of it answer
 
 abbrev pub stoppedBody : ℕ → Place → ℕ → BodyRead
 stoppedBody code place met = record { progress = halted code place; count = 0; met = met }
 
-abbrev pub goneBody : ℕ → ℕ → ℕ → BodyRead
+abbrev pub goneBody : ℕ → Place → ℕ → BodyRead
 goneBody count next met = record { progress = going next; count = count; met = met }

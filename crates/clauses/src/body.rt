@@ -12,9 +12,8 @@ use tables::LITERAL;
 use tables::row::put_row;
 use terms::cursor::Cursor;
 use terms::cursor::onward;
-use tokens::NOWHERE;
-use tokens::Place;
 use tokens::kind::DOT;
+use tokens::place::Place;
 use tokens::sizes::MOST_LITERALS;
 
 // How many literals there are, and how many variables have been met behind them.
@@ -28,24 +27,19 @@ pub fn stopped(code: u8, place: Place, met: usize) -> BodyRead
     ensures { λ r. ⌜ r ≡ stoppedBody code place met ⌝ }
 {
     BodyRead {
-        progress: Progress {
-            code,
-            place,
-            next: 0,
-        },
+        progress: Progress { code, place },
         count: 0,
         met,
     }
 }
 
-pub fn gone(count: usize, next: usize, met: usize) -> BodyRead
+pub fn gone(count: usize, next: Place, met: usize) -> BodyRead
     ensures { λ r. ⌜ r ≡ goneBody count next met ⌝ }
 {
     BodyRead {
         progress: Progress {
             code: 0,
-            place: NOWHERE,
-            next,
+            place: next,
         },
         count,
         met,
@@ -86,13 +80,13 @@ pub fn body_at<'a>(
         put_literal(literals, first + count, row);
         count += 1;
         met = read.met;
-        let end = separator_at(program, read.progress.next, false, DOT);
+        let end = separator_at(program, read.progress.place, false, DOT);
         if end.progress.code != 0 {
             return stopped(end.progress.code, end.progress.place, met);
         }
         if end.last {
-            return gone(count, end.progress.next, met);
+            return gone(count, end.progress.place, met);
         }
-        at = end.progress.next;
+        at = end.progress.place;
     }
 }

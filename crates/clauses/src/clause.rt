@@ -18,11 +18,12 @@ use tables::NO_LITERAL;
 use tables::ROWS;
 use terms::cursor::Cursor;
 use terms::cursor::onward;
-use tokens::NOWHERE;
-use tokens::Place;
 use tokens::kind::DOT;
 use tokens::kind::END;
 use tokens::kind::IF;
+use tokens::place::Place;
+use tokens::place::TEXT_START;
+use tokens::place::past;
 
 // A rule: its head's row or that there is none, how many literals its body has, and how many variables it has. Where `ended`, there is none,
 // because the text ends.
@@ -38,11 +39,7 @@ fn stopped(code: u8, place: Place) -> RuleRead
     ensures { λ r. ⌜ r ≡ stoppedRule code place ⌝ }
 {
     RuleRead {
-        progress: Progress {
-            code,
-            place,
-            next: 0,
-        },
+        progress: Progress { code, place },
         ended: false,
         head: 0,
         count: 0,
@@ -53,7 +50,7 @@ fn stopped(code: u8, place: Place) -> RuleRead
 fn ended() -> RuleRead
     ensures { λ r. ⌜ r ≡ endedRule ⌝ }
 {
-    let mut read = stopped(0, NOWHERE);
+    let mut read = stopped(0, TEXT_START);
     read.ended = true;
     read
 }
@@ -87,12 +84,12 @@ fn headed<'a>(
 {
     let token = token_at(program, cursor.at, false);
     if token.kind == DOT {
-        return gone(0, token.next, cursor.met);
+        return gone(0, past(token.place), cursor.met);
     }
     if token.kind != IF {
         return stopped_body(WRONG, token.place, cursor.met);
     }
-    let behind = onward(cursor, token.next, false, cursor.met);
+    let behind = onward(cursor, past(token.place), false, cursor.met);
     body_at(program, output, names, variables, literals, behind, first)
 }
 
@@ -109,14 +106,15 @@ fn with_head<'a>(
     requires { ⌜ ReadyHead (now program) (now output) (now names) (now variables) (now literals) cursor number ⌝ }
     ensures { λ r. ⌜ FillsRule (now (program .entry)) (now (output .entry)) (now (names .entry)) (now (variables .entry)) (now (literals .entry)) cursor number r (now (names .exit)) (now (variables .exit)) (now (literals .exit)) ⌝ }
 {
-    let read = atom_at(program, output, program, names, variables, cursor);
+    let first = token_at(program, cursor.at, false);
+    let read = atom_at(program, output, program, names, variables, cursor, first);
     if read.progress.code != 0 {
         return stopped(read.progress.code, read.progress.place);
     }
     let row = number * ROWS;
     let codes = read.codes;
     put_literal(literals, row, atom_row(HEAD, codes));
-    let behind = onward(cursor, read.progress.next, false, read.met);
+    let behind = onward(cursor, read.progress.place, false, read.met);
     let body = headed(program, output, names, variables, literals, behind, row + 1);
     bodied(row as u64, body)
 }
@@ -145,7 +143,7 @@ pub fn rule_at<'a>(
         return stopped(OVER, token.place);
     }
     let first = number * ROWS + 1;
-    let behind = onward(cursor, token.next, false, 0);
+    let behind = onward(cursor, past(token.place), false, 0);
     let body = body_at(program, output, names, variables, literals, behind, first);
     bodied(NO_LITERAL, body)
 }

@@ -6,8 +6,9 @@ use mathlib.Core.List.{List, []}
 use Prim.Native.Nat.{ℕ, _<_}
 use native.Mathlib.Omega.{arith}
 use borrow.Author.Tests.{ne-eqb}
-use Rattle.tokens.specs.declared.Place.{Place}
-use Rattle.tokens.specs.Places.{nowhere, places-in}
+use Rattle.tokens.specs.declared.place.Place.{Place}
+use Rattle.tokens.specs.Place.{text-start, past}
+use Rattle.tokens.specs.Places.{places-in}
 use Rattle.reading.specs.Machine.{walk}
 use Rattle.meaning.specs.Rules.{Bytes}
 use Rattle.grammar.specs.Trees.{empty, _then_, count, Atom, fact, Program}
@@ -18,13 +19,13 @@ use Rattle.grammar.specs.Moves.{free-moves, symbol-number, when, fire, either, 
 use Rattle.grammar.specs.Machine.{after-atom, else-wanted, moves, finished-atom, finished}
 use Rattle.grammar.proofs.Numbers.{try-number, fire-number}
 use Rattle.syntax.specs.declared.token.TokenRead.{TokenRead}
-use Rattle.syntax.specs.Text.{placed-from, end-of, tokenRead}
+use Rattle.syntax.specs.Text.{placed-from, end-of, tokenRead, next-of}
 use Rattle.syntax.specs.Variables.{variables-of}
 use Rattle.syntax.specs.Ahead.{wants, wanting, from}
 use Rattle.syntax.specs.Fills.{Fills}
 use Rattle.syntax.specs.Atoms.{AtomPlace, head, atom-context}
 use Rattle.syntax.specs.Rules.{behind-rules, RulePlace}
-use Rattle.syntax.proofs.Tokens.{within, forward}
+use Rattle.syntax.proofs.Tokens.{forward, past-here}
 use Rattle.syntax.proofs.Steps.{same-walk, wrong-token, at-end, dot-token, dot-stands}
 use Rattle.syntax.proofs.Sizes.{fault-none}
 use Rattle.terms.proofs.Readiness.{codes-wider}
@@ -35,7 +36,7 @@ use Rattle.factline.specs.declared.fact.FactRead.{FactRead}
 use Rattle.factline.specs.Facts.{ReadyFact, ReadsFact, read, ended, stopped, noFact, goneFact}
 
 -- the cursor where a fact stands
-abbrev at-fact : ℕ → ℕ → Bool → Cursor
+abbrev at-fact : ℕ → Place → Bool → Cursor
 at-fact base at over = record { base = base; at = at; ground = true; over = over; met = 0 }
 
 -- what is asked of a cursor says that it is one
@@ -47,53 +48,53 @@ as-ahead : (text : Bytes) (at : ℕ) (p : Program true) → behind-rules true te
 unfolding variables-of
 as-ahead text at p = same-walk true (placed-from true text at) (atom-wanted (head-behind p)) [] (end-of text)
 
-module _ (program output text : Bytes) (names variables : List ℕ) (base at : ℕ) (over : Bool) (t : TokenRead) (et : t ≡ tokenRead true text at) (r : FactRead) where
-  pub fact-ended : t .kind ≡ 20 → r ≡ noFact 0 nowhere true → ReadsFact program output names over text at r names
+module _ (program output text : Bytes) (names variables : List ℕ) (base : ℕ) (at : Place) (over : Bool) (t : TokenRead) (et : t ≡ tokenRead true text (at .start)) (r : FactRead) where
+  pub fact-ended : t .kind ≡ 20 → r ≡ noFact 0 text-start true → ReadsFact program output names over text (at .start) r names
   unfolding finished finished-atom
-  fact-ended ek er = rw er (ended refl refl refl (λ p. as-ahead text at p ∙ at-end true text at t et (wants (atom-wanted (head-behind p))) [] p ek refl))
+  fact-ended ek er = rw er (ended refl refl refl (λ p. as-ahead text (at .start) p ∙ at-end true text (at .start) t et (wants (atom-wanted (head-behind p))) [] p ek refl))
 
   -- `:-`
-  pub fact-if : (names′ : List ℕ) → t .kind ≡ 9 → r ≡ noFact 2 (t .place) false → ReadsFact program output names over text at r names′
+  pub fact-if : (names′ : List ℕ) → t .kind ≡ 9 → r ≡ noFact 2 (t .place) false → ReadsFact program output names over text (at .start) r names′
   unfolding moves else-wanted free-moves try-number fire-number either when symbol-number
-  fact-if names′ ek er = rw er (stopped (omega arith) (λ h. as-ahead text at (h .rules) ∙ wrong-token true text at t et (wants (atom-wanted (head-behind (h .rules)))) [] (rw (ne-eqb (t .kind) 0 (λ z. omega arith), ne-eqb (t .kind) 10 (λ z. omega arith))) (λ z. absurd (omega arith))))
+  fact-if names′ ek er = rw er (stopped (omega arith) (λ h. as-ahead text (at .start) (h .rules) ∙ wrong-token true text (at .start) t et (wants (atom-wanted (head-behind (h .rules)))) [] (rw (ne-eqb (t .kind) 0 (λ z. omega arith), ne-eqb (t .kind) 10 (λ z. omega arith))) (λ z. absurd (omega arith))))
 
   -- its atom is refused, or read
   module _ (ne : t .kind ≡ 9 → ⊥) (nd : t .kind ≡ 20 → ⊥) (w : AtomRead) (names′ variables′ : List ℕ) (g : ReadsAtom program output text names variables (at-fact base at over) w names′ variables′) where
     abbrev v′ : List Place
     v′ = places-in variables′ (w .met)
 
-    place : RulePlace true over → AtomPlace true over text at
+    place : RulePlace true over → AtomPlace true over text (at .start)
     place h = head (h .rules) (h .size) (λ z. ne (rw et z)) (λ z. nd (rw et z))
 
-    pub fact-stops : (w .progress .code ≡ 0 → ⊥) → r ≡ noFact (w .progress .code) (w .progress .place) false → ReadsFact program output names over text at r names′
+    pub fact-stops : (w .progress .code ≡ 0 → ⊥) → r ≡ noFact (w .progress .code) (w .progress .place) false → ReadsFact program output names over text (at .start) r names′
     unfolding place atom-context places-in
     fact-stops n er = rw er (go g)
       where
-        go : ReadsAtom program output text names variables (at-fact base at over) w names′ variables′ → ReadsFact program output names over text at (noFact (w .progress .code) (w .progress .place) false) names′
+        go : ReadsAtom program output text names variables (at-fact base at over) w names′ variables′ → ReadsFact program output names over text (at .start) (noFact (w .progress .code) (w .progress .place) false) names′
         go (Fills.read c b n′ o f x s m q) = absurd (n c)
-        go (Fills.stopped c q) = stopped c (λ h. as-ahead text at (h .rules) ∙ q (place h))
+        go (Fills.stopped c q) = stopped c (λ h. as-ahead text (at .start) (h .rules) ∙ q (place h))
 
-    module _ (z : w .progress .code ≡ 0) (d : TokenRead) (ed : d ≡ tokenRead true text (w .progress .next)) where
+    module _ (z : w .progress .code ≡ 0) (d : TokenRead) (ed : d ≡ tokenRead true text (w .progress .place .start)) where
       -- no dot behind it
-      pub fact-wrong : (d .kind ≡ 8 → ⊥) → r ≡ noFact 2 (d .place) false → ReadsFact program output names over text at r names′
+      pub fact-wrong : (d .kind ≡ 8 → ⊥) → r ≡ noFact 2 (d .place) false → ReadsFact program output names over text (at .start) r names′
       unfolding place atom-context places-in moves after-atom free-moves try-number fire-number either when symbol-number finished
       fact-wrong n er = rw er (go g)
         where
-          go : ReadsAtom program output text names variables (at-fact base at over) w names′ variables′ → ReadsFact program output names over text at (noFact 2 (d .place) false) names′
-          go (Fills.read c b n′ o f x s m q) = stopped (omega arith) (λ h. as-ahead text at (h .rules) ∙ ap (λ y. y .answer) (q (place h)) ∙ wrong-token true text (w .progress .next) d ed (wants (closed (head-behind (h .rules)) x)) v′ (rw (ne-eqb (d .kind) 8 n)) (λ y. refl))
+          go : ReadsAtom program output text names variables (at-fact base at over) w names′ variables′ → ReadsFact program output names over text (at .start) (noFact 2 (d .place) false) names′
+          go (Fills.read c b n′ o f x s m q) = stopped (omega arith) (λ h. as-ahead text (at .start) (h .rules) ∙ ap (λ y. y .answer) (q (place h)) ∙ wrong-token true text (w .progress .place .start) d ed (wants (closed (head-behind (h .rules)) x)) v′ (rw (ne-eqb (d .kind) 8 n)) (λ y. refl))
           go (Fills.stopped c q) = absurd (omega arith)
 
-      pub fact-goes : d .kind ≡ 8 → r ≡ goneFact (w .codes) (t .place .start) (d .next) → ReadsFact program output names over text at r names′
+      pub fact-goes : d .kind ≡ 8 → r ≡ goneFact (w .codes) (t .place .start) (past (d .place)) → ReadsFact program output names over text (at .start) r names′
       unfolding place atom-context places-in variables-of moves after-atom try fire either when symbol-number too-big too-long too-many too-many-variables is-underscore count
       fact-goes ek er = rw er (go g)
         where
-          dotted : (p : Program true) (x : Atom true) → (from true text (wants (closed (head-behind p) x)) v′ (w .progress .next) .answer ≡ walk (language true) (wanting true) (wants (atom-wanted (head-behind (p then fact x)))) [] (end-of text) (placed-from true text (d .next))) × (from true text (wants (closed (head-behind p) x)) v′ (w .progress .next) .rest ≡ some (placed-from true text (d .next)))
-          dotted p x = let y = dot-token true text (w .progress .next) d ed ek (wants (closed (head-behind p) x)) v′ (record { mark = inside; state = atom-wanted (head-behind (p then fact x)) }) refl (fault-none _ _ _ _ refl refl refl refl) in (y .0, y .2)
+          dotted : (p : Program true) (x : Atom true) → (from true text (wants (closed (head-behind p) x)) v′ (w .progress .place .start) .answer ≡ walk (language true) (wanting true) (wants (atom-wanted (head-behind (p then fact x)))) [] (end-of text) (placed-from true text (next-of d))) × (from true text (wants (closed (head-behind p) x)) v′ (w .progress .place .start) .rest ≡ some (placed-from true text (next-of d)))
+          dotted p x = let y = dot-token true text (w .progress .place .start) d ed ek (wants (closed (head-behind p) x)) v′ (record { mark = inside; state = atom-wanted (head-behind (p then fact x)) }) refl (fault-none _ _ _ _ refl refl refl refl) in (y .0, y .2)
 
-          behind : w .progress .next < d .next
-          behind = forward true text (w .progress .next) d ed (λ q. let y : _≡_ {A = ℕ} 8 20 = inv ek ∙ q in omega arith)
+          behind : w .progress .place .start < next-of d
+          behind = forward true text (w .progress .place .start) d ed (λ q. let y : _≡_ {A = ℕ} 8 20 = inv ek ∙ q in omega arith)
 
-          go : ReadsAtom program output text names variables (at-fact base at over) w names′ variables′ → ReadsFact program output names over text at (goneFact (w .codes) (t .place .start) (d .next)) names′
+          go : ReadsAtom program output text names variables (at-fact base at over) w names′ variables′ → ReadsFact program output names over text (at .start) (goneFact (w .codes) (t .place .start) (past (d .place))) names′
           go (Fills.read c b n o f x s m q) =
               let y = q (head empty (inv o) (λ z. ne (rw et z)) (λ z. nd (rw et z))) in
               let l = behind in
@@ -101,13 +102,13 @@ module _ (program output text : Bytes) (names variables : List ℕ) (base at : �
               (record {
                 codes = codes-wider _ (omega arith) s;
                 forward = omega arith;
-                inside = within true text (w .progress .next) d ed;
+                placed = past-here true text (w .progress .place .start) d ed (λ q. absurd (let y : _≡_ {A = ℕ} 8 21 = inv ek ∙ q in omega arith));
                 start = rw et;
                 some-token = λ k. nd (rw et k);
                 rest = ap (λ u. u .rest) y ∙ dotted empty x .1;
                 dot = d .place;
-                dot-is = ap (λ u. u .dot) y ∙ dot-stands true text (w .progress .next) d ed ek;
+                dot-is = ap (λ u. u .dot) y ∙ dot-stands true text (w .progress .place .start) d ed ek;
                 ends = rw ed;
               })
-              (λ h. as-ahead text at (h .rules) ∙ ap (λ u. u .answer) (q (place h)) ∙ dotted (h .rules) x .0 ∙ inv (same-walk true _ _ [] _))
+              (λ h. as-ahead text (at .start) (h .rules) ∙ ap (λ u. u .answer) (q (place h)) ∙ dotted (h .rules) x .0 ∙ inv (same-walk true _ _ [] _))
           go (Fills.stopped c q) = absurd (omega arith)

@@ -8,14 +8,18 @@ use Prim.Native.Nat.{ℕ, suc, _+_, _*_, _-_, _≤_, _<_}
 use native.Mathlib.Omega.{arith}
 use native.Mathlib.Numerals.{add-one}
 use lib.Dec.{leb, ltb, eqb}
-use lib.ListN.{length, getD, take, set, length-set, length-take, length-drop}
+use lib.ListN.{length, getD, set, length-set, length-take, length-drop}
 use lib.Seq.{take-suc-set, take-set-le, drop-set-lt, getD-set-same, getD-set-other}
 use borrow.Author.Tests.{eqb-true, eqb-false, ltb-true, ltb-false, leb-false}
-use Rattle.tokens.specs.declared.Place.{Place}
-use Rattle.tokens.specs.Places.{place-from, nowhere}
+use Rattle.tokens.specs.declared.place.Place.{Place}
+use Rattle.tokens.specs.Place.{text-start, with-len}
 use Rattle.tokens.specs.Tokens.{part}
 use Rattle.reading.specs.Reading.{Placed, Answer}
 use Rattle.reading.proofs.Lists.{none-some, some-inj}
+use Rattle.tokens.specs.Place.{Stands as PlaceStands}
+use Rattle.tokens.specs.Places.{span-from}
+use Rattle.tokens.proofs.Counting.{start-stands}
+use Rattle.terms.specs.Cursors.{variables-size}
 use Rattle.meaning.specs.Sets.{In}
 use Rattle.meaning.specs.Rules.{Bytes, Rule as MeantRule}
 use Rattle.meaning.specs.Values.{Value}
@@ -30,7 +34,7 @@ use Rattle.syntax.specs.Rules.{behind-rules, RulePlace}
 use Rattle.syntax.specs.Programs.{ReadAs}
 use Rattle.syntax.proofs.Lists.{too-many-next}
 use Rattle.syntax.proofs.Programs.{reading-of}
-use Rattle.rule_places.specs.Sentences.{dot-end, between, sentence}
+use Rattle.rule_places.specs.Sentences.{dot-end, sentence}
 use Rattle.rule_places.proofs.Dots.{Reached, reached-start, reached-on, reached-sentence, start-before, first-to-dot}
 use Rattle.codes.specs.Codes.{no-value, Coded}
 use Rattle.codes.specs.Predicates.{CodedName}
@@ -109,23 +113,23 @@ atom-meant x = some-inj (ap (λ (m : MeantRule Value). m .head) (fact-is-rule (f
 
 -- ---- the loop
 
-pub record Going (program output text : Bytes) (base : ℕ) (names₀ facts₀ starts₀ lengths₀ : List ℕ) (at n : ℕ) (names variables facts starts lengths : List ℕ) : Type 0 where
+pub record Going (program output text : Bytes) (base : ℕ) (names₀ facts₀ starts₀ lengths₀ : List ℕ) (at : Place) (n : ℕ) (names variables facts starts lengths : List ℕ) : Type 0 where
   pub few : n ≤ most-facts
   pub trees : Program true
   pub size : count trees ≡ n
-  pub walks : behind-rules true text empty 0 ≡ behind-rules true text trees at
-  pub within-text : at ≤ length text
-  pub reached : Reached true text n at
+  pub walks : behind-rules true text empty 0 ≡ behind-rules true text trees (at .start)
+  pub placed : PlaceStands text at
+  pub reached : Reached true text n (at .start)
   pub long : length names ≡ length names₀
-  pub room-for-variables : length variables ≡ 32
-  pub grows : Grows program output names₀ at names
+  pub room-for-variables : length variables ≡ variables-size
+  pub grows : Grows program output names₀ (at .start) names
   pub facts-kept : Kept 0 (n * fact-stride) facts₀ facts
   pub ground : (k : ℕ) → k < n → (v : ℕ) → In v (fact-arguments facts k) → no-value < v
   pub stands : Pairwise (RelatedAtom (CodedName (names-of program output names)) (Coded (names-of program output names))) (facts-of facts n) (facts-for trees)
   pub starts-hold : Holds (λ k. base + sentence true text k .start) n starts₀ starts
   pub lengths-hold : Holds (λ k. sentence true text k .len) n lengths₀ lengths
 
-pub going-start : (program output text : Bytes) (base : ℕ) (names variables facts starts lengths : List ℕ) {n : ℕ} → Room program output names n → length variables ≡ 32 → Going program output text base names facts starts lengths 0 0 names variables facts starts lengths
+pub going-start : (program output text : Bytes) (base : ℕ) (names variables facts starts lengths : List ℕ) {n : ℕ} → Room program output names n → length variables ≡ variables-size → Going program output text base names facts starts lengths text-start 0 names variables facts starts lengths
 unfolding from facts-for count
 going-start program output text base names variables facts starts lengths room long =
     record {
@@ -133,7 +137,7 @@ going-start program output text base names variables facts starts lengths room l
       trees = empty;
       size = refl;
       walks = refl;
-      within-text = omega arith;
+      placed = start-stands text;
       reached = reached-start true text;
       long = refl;
       room-for-variables = long;
@@ -145,16 +149,16 @@ going-start program output text base names variables facts starts lengths room l
       lengths-hold = holds-none _ lengths;
     }
 
-module _ (program output : Bytes) (line : Place) (text : Bytes) (et : text ≡ part output line) (names₀ facts₀ starts₀ lengths₀ : List ℕ) (ask : Fillable program output line names₀ facts₀ starts₀ lengths₀) (at n : ℕ) (names variables facts starts lengths : List ℕ) (g : Going program output text (line .start) names₀ facts₀ starts₀ lengths₀ at n names variables facts starts lengths) where
+module _ (program output : Bytes) (line : Place) (text : Bytes) (et : text ≡ part output line) (names₀ facts₀ starts₀ lengths₀ : List ℕ) (ask : Fillable program output line names₀ facts₀ starts₀ lengths₀) (at : Place) (n : ℕ) (names variables facts starts lengths : List ℕ) (g : Going program output text (line .start) names₀ facts₀ starts₀ lengths₀ at n names variables facts starts lengths) where
   no-longer : length text ≤ line .len
   no-longer = rw et (simp (length-take, length-drop) (omega arith))
 
   -- the line stands in the two texts
   source : Source program output text (length program + line .start)
   source =
-      let place = place-from (length program + line .start) (line .len) in
-      let e : bytes-at program output place ≡ text = in-output program output line ∙ inv et in
-      inv e ∙ inv (own-length program output place) ∙ ap (λ (b : Bytes). bytes-at program output (place-from (length program + line .start) (length b))) e
+      let span = span-from (length program + line .start) (line .len) in
+      let e : bytes-at program output span ≡ text = in-output program output (span-from (line .start) (line .len)) ∙ inv et in
+      inv e ∙ inv (own-length program output span) ∙ ap (λ (b : Bytes). bytes-at program output (span-from (length program + line .start) (length b))) e
 
   -- there is room for the names of what lies ahead
   pub going-ready : (ground over : Bool) → ReadyCursor program output text names variables (record { base = length program + line .start; at = at; ground = ground; over = over; met = 0 })
@@ -163,13 +167,13 @@ module _ (program output : Bytes) (line : Place) (text : Bytes) (et : text ≡ p
       record {
         source = source;
         short = let i = ask .inside in let o = ask .room .in-order .output-size in omega arith;
-        inside = g .within-text;
-        room = room-after program output (g .grows) (length text - at) (ask .room) (let w = g .within-text in omega arith);
+        stands = g .placed;
+        room = room-after program output (g .grows) (length text - at .start) (ask .room) (let w = g .placed .inside in omega arith);
         few = omega arith;
         long = let l = g .room-for-variables in omega arith;
       }
 
-  module _ (r : FactRead) (names′ : List ℕ) (gr : ReadsFact program output names (leb 1_024 n) text at r names′) where
+  module _ (r : FactRead) (names′ : List ℕ) (gr : ReadsFact program output names (leb 1_024 n) text (at .start) r names′) where
     place : RulePlace true (leb 1_024 n)
     unfolding too-many
     place = record { rules = g .trees; size = rw (g .size) (too-many-next 1_024 n) }
@@ -181,21 +185,21 @@ module _ (program output : Bytes) (line : Place) (text : Bytes) (et : text ≡ p
     unfolding place
     line-stops ne w ew = rw ew (record { few = omega arith; fills = λ predicates predicates′ h. go predicates predicates′ gr })
       where
-        go : (predicates predicates′ : List ℕ) → ReadsFact program output names (leb 1_024 n) text at r names′ → FillsLine program output line names₀ facts₀ predicates starts₀ lengths₀ (factsRead (r .progress .code) (r .progress .place) 0) names′ facts predicates′ starts lengths
+        go : (predicates predicates′ : List ℕ) → ReadsFact program output names (leb 1_024 n) text (at .start) r names′ → FillsLine program output line names₀ facts₀ predicates starts₀ lengths₀ (factsRead (r .progress .code) (r .progress .place) 0) names′ facts predicates′ starts lengths
         go predicates predicates′ (read c d o x s q) = absurd (ne c)
         go predicates predicates′ (ended c d k q) = absurd (ne c)
         go predicates predicates′ (stopped c q) = refuses c refl (on-line _ (g .walks ∙ q place))
 
     -- at the end all facts have their rows
     module _ (e : r .progress .code ≡ 0) where
-      pub line-ends : r .ended ≡ true → (w : FactsRead) → w ≡ factsRead 0 nowhere n → FillsRows program output line names₀ facts₀ starts₀ lengths₀ w names′ facts starts lengths
+      pub line-ends : r .ended ≡ true → (w : FactsRead) → w ≡ factsRead 0 text-start n → FillsRows program output line names₀ facts₀ starts₀ lengths₀ w names′ facts starts lengths
       line-ends z w ew = rw ew (record { few = g .few; fills = λ predicates predicates′ h. go predicates predicates′ h gr })
         where
           filled : (predicates predicates′ : List ℕ) → Listed facts n predicates predicates′ → Filled program output line (g .trees) names₀ facts₀ predicates starts₀ lengths₀ n names facts predicates′ starts lengths
           filled predicates predicates′ h =
               record {
                 size = inv (g .size);
-                grows = grows-then program output (g .grows) (line .len) (grows-none program output names 0 (g .grows .in-order)) (let w = g .within-text in let l = no-longer in omega arith);
+                grows = grows-then program output (g .grows) (line .len) (grows-none program output names 0 (g .grows .in-order)) (let w = g .placed .inside in let l = no-longer in omega arith);
                 table = record { long = let l = g .facts-kept .long in let k = g .few in let y = ask .facts-long in omega arith; few = g .few; ground = g .ground };
                 stands = g .stands;
                 are-predicates = h .are-predicates;
@@ -205,7 +209,7 @@ module _ (program output : Bytes) (line : Place) (text : Bytes) (et : text ≡ p
                 lengths-hold = subst (λ (b : Bytes). Holds (λ k. sentence true b k .len) n lengths₀ lengths) et (g .lengths-hold);
               }
 
-          go : (predicates predicates′ : List ℕ) → Listed facts n predicates predicates′ → ReadsFact program output names (leb 1_024 n) text at r names′ → FillsLine program output line names₀ facts₀ predicates starts₀ lengths₀ (factsRead 0 nowhere n) names′ facts predicates′ starts lengths
+          go : (predicates predicates′ : List ℕ) → Listed facts n predicates predicates′ → ReadsFact program output names (leb 1_024 n) text (at .start) r names′ → FillsLine program output line names₀ facts₀ predicates starts₀ lengths₀ (factsRead 0 text-start n) names′ facts predicates′ starts lengths
           go predicates predicates′ h (read c d o x s q) = absurd (false≢true (inv d ∙ z))
           go predicates predicates′ h (ended c d k q) = rw k (whole refl refl (g .trees) (on-line _ (g .walks ∙ q (g .trees))) (filled predicates predicates′ h))
           go predicates predicates′ h (stopped c q) = absurd (omega arith)
@@ -214,15 +218,15 @@ module _ (program output : Bytes) (line : Place) (text : Bytes) (et : text ≡ p
       module _ (z : r .ended ≡ false) where
         record Next : Type 0 where
           pub tree-of : Atom true
-          pub stands : FactStands program output names text at tree-of r names′
+          pub stands : FactStands program output names text (at .start) tree-of r names′
           pub room : n < most-facts
-          pub walks : behind-rules true text empty 0 ≡ behind-rules true text (g .trees then fact tree-of) (r .progress .next)
+          pub walks : behind-rules true text empty 0 ≡ behind-rules true text (g .trees then fact tree-of) (r .progress .place .start)
 
         next : Next
         unfolding place
         next = go gr
           where
-            go : ReadsFact program output names (leb 1_024 n) text at r names′ → Next
+            go : ReadsFact program output names (leb 1_024 n) text (at .start) r names′ → Next
             go (read c d o x s q) = record { tree-of = x; stands = s; room = leb-false 1_024 n o; walks = g .walks ∙ q place }
             go (ended c d k q) = absurd (true≢false (inv d ∙ z))
             go (stopped c q) = absurd (omega arith)
@@ -230,17 +234,20 @@ module _ (program output : Bytes) (line : Place) (text : Bytes) (et : text ≡ p
         pub facts-room : n < most-facts
         facts-room = next .room
 
-        ends-at : dot-end (end-of text) (placed-from true text at) ≡ r .progress .next
-        ends-at = dot-ends (end-of text) (placed-from true text at) (next .stands .dot) (next .stands .dot-is) ∙ inv (next .stands .ends)
+        ends-at : dot-end (end-of text) (placed-from true text (at .start)) ≡ r .progress .place .start
+        ends-at = dot-ends (end-of text) (placed-from true text (at .start)) (next .stands .dot) (next .stands .dot-is) ∙ inv (next .stands .ends)
 
-        its-place : sentence true text n ≡ between (r .start) (r .progress .next)
+        its-place : sentence true text n ≡ with-len (tokenRead true text (at .start) .place) (r .progress .place .start - r .start)
         its-place =
-            inv (reached-sentence true text n at (g .reached))
-            ∙ first-to-dot true text at (tokenRead true text at) refl (next .stands .some-token)
-            ∙ ap₂ (λ (a b : ℕ). between a b) (inv (next .stands .start)) ends-at
+            inv (reached-sentence true text n (at .start) (g .reached))
+            ∙ first-to-dot true text (at .start) (tokenRead true text (at .start)) refl (next .stands .some-token)
+            ∙ ap₂ (λ (a b : ℕ). with-len (tokenRead true text (at .start) .place) (b - a)) (inv (next .stands .start)) ends-at
 
-        forward : r .start ≤ r .progress .next
-        forward = let s = start-before true text at (tokenRead true text at) refl (next .stands .some-token) in let a = next .stands .start in let b = ends-at in omega arith
+        its-start : r .start ≡ sentence true text n .start
+        its-start = next .stands .start ∙ inv (ap (λ (p : Place). p .start) its-place)
+
+        forward : r .start ≤ r .progress .place .start
+        forward = let s = start-before true text (at .start) (tokenRead true text (at .start)) refl (next .stands .some-token) in let a = next .stands .start in let b = ends-at in omega arith
 
         pub puttable : Puttable facts starts lengths n (line .start) r
         puttable =
@@ -251,7 +258,7 @@ module _ (program output : Bytes) (line : Place) (text : Bytes) (et : text ≡ p
               lengths-long = let l = g .lengths-hold .same-size in let y = ask .lengths-long in omega arith;
               number-small = m;
               forward = forward;
-              small = let i = ask .inside in let o = ask .room .in-order .output-size in let w = next .stands .inside in let l = no-longer in omega arith;
+              small = let i = ask .inside in let o = ask .room .in-order .output-size in let w = next .stands .placed .inside in let l = no-longer in omega arith;
             }
 
         module _ (facts′ starts′ lengths′ : List ℕ) (put : Put facts starts lengths n (line .start) r facts′ starts′ lengths′) where
@@ -271,7 +278,7 @@ module _ (program output : Bytes) (line : Place) (text : Bytes) (et : text ≡ p
                   below : (k ≡ n → ⊥) → k < n
                   below other = omega arith
 
-          pub going-on : (variables′ : List ℕ) → length names′ ≡ length names₀ → length variables′ ≡ 32 → Going program output text (line .start) names₀ facts₀ starts₀ lengths₀ (r .progress .next) (n + 1) names′ variables′ facts′ starts′ lengths′
+          pub going-on : (variables′ : List ℕ) → length names′ ≡ length names₀ → length variables′ ≡ variables-size → Going program output text (line .start) names₀ facts₀ starts₀ lengths₀ (r .progress .place) (n + 1) names′ variables′ facts′ starts′ lengths′
           unfolding facts-for count
           going-on variables′ long long′ =
               let room = facts-room in
@@ -281,14 +288,14 @@ module _ (program output : Bytes) (line : Place) (text : Bytes) (et : text ≡ p
                 trees = g .trees then fact (next .tree-of);
                 size = ap suc (g .size) ∙ inv (add-one n);
                 walks = next .walks;
-                within-text = next .stands .inside;
-                reached = rw ends-at at (reached-on true text n at (g .reached));
+                placed = next .stands .placed;
+                reached = rw ends-at at (reached-on true text n (at .start) (g .reached));
                 long = long;
                 room-for-variables = long′;
-                grows = grows-then program output (g .grows) (r .progress .next) (next .stands .codes .grows) (let f = next .stands .forward in omega arith);
+                grows = grows-then program output (g .grows) (r .progress .place .start) (next .stands .codes .grows) (let f = next .stands .forward in omega arith);
                 facts-kept = kept-then (kept-wider (g .facts-kept) 0 ((n + 1) * fact-stride) (omega arith) (omega arith)) (kept-wider (its-row .kept) 0 ((n + 1) * fact-stride) (omega arith) (omega arith));
                 ground = grounds;
                 stands = rw (facts-with facts facts′ n (its-row .kept)) (pairwise-append (keeps-facts program output (next .stands .codes .grows) (g .stands)) (pair (its-row .stands) end));
-                starts-hold = rw (put .starts-so) (holds-more (λ k. line .start + sentence true text k .start) n starts₀ starts (g .starts-hold) (y .starts-long) (line .start + r .start) (rw its-place));
-                lengths-hold = rw (put .lengths-so) (holds-more (λ k. sentence true text k .len) n lengths₀ lengths (g .lengths-hold) (y .lengths-long) (r .progress .next - r .start) (rw its-place));
+                starts-hold = rw (put .starts-so) (holds-more (λ k. line .start + sentence true text k .start) n starts₀ starts (g .starts-hold) (y .starts-long) (line .start + r .start) (ap (λ (i : ℕ). line .start + i) its-start));
+                lengths-hold = rw (put .lengths-so) (holds-more (λ k. sentence true text k .len) n lengths₀ lengths (g .lengths-hold) (y .lengths-long) (r .progress .place .start - r .start) (inv (ap (λ (p : Place). p .len) its-place)));
               }

@@ -4,8 +4,9 @@ use mathlib.Core.Bool.{true}
 use mathlib.Core.List.{List, _∷_}
 use Prim.Native.Nat.{ℕ, _+_, _*_, _-_, _≤_, _<_}
 use lib.ListN.{length, take, getD, set}
-use Rattle.tokens.specs.declared.Place.{Place}
-use Rattle.tokens.specs.Places.{nowhere, number-limit}
+use Rattle.tokens.specs.declared.place.Place.{Place}
+use Rattle.tokens.specs.Place.{text-start}
+use Rattle.tokens.specs.Places.{number-limit}
 use Rattle.tokens.specs.Tokens.{part}
 use Rattle.reading.specs.Reading.{tree, refused}
 use Rattle.meaning.specs.Rules.{Bytes}
@@ -38,8 +39,8 @@ pub record Puttable (facts starts lengths : List ℕ) (number base : ℕ) (fact 
   pub starts-long : number < length starts
   pub lengths-long : number < length lengths
   pub number-small : number < most-facts
-  pub forward : fact .start ≤ fact .progress .next
-  pub small : base + fact .progress .next < number-limit
+  pub forward : fact .start ≤ fact .progress .place .start
+  pub small : base + fact .progress .place .start < number-limit
 
 pub record Put (facts starts lengths : List ℕ) (number base : ℕ) (fact : FactRead) (facts′ starts′ lengths′ : List ℕ) : Type 0 where
   pub row : List ℕ
@@ -47,7 +48,7 @@ pub record Put (facts starts lengths : List ℕ) (number base : ℕ) (fact : Fac
   pub nine : length row ≡ fact-stride
   pub facts-so : facts′ ≡ with-row facts (number * fact-stride) row
   pub starts-so : starts′ ≡ set starts number (base + fact .start)
-  pub lengths-so : lengths′ ≡ set lengths number (fact .progress .next - fact .start)
+  pub lengths-so : lengths′ ≡ set lengths number (fact .progress .place .start - fact .start)
 
 -- ---- the line
 
@@ -84,7 +85,7 @@ pub record Filled (program output : Bytes) (line : Place) (fs : Program true) (n
 
 -- some facts, which are so many, and stand in the tables; or a refusal at its place on the line
 pub data FillsLine (program output : Bytes) (line : Place) (names facts predicates starts lengths : List ℕ) (r : FactsRead) (names′ facts′ predicates′ starts′ lengths′ : List ℕ) : Type 0 where
-  whole : r .code ≡ 0 → r .place ≡ nowhere → (fs : Program true) → ReadAs true (part output line) (tree fs) → Filled program output line fs names facts predicates starts lengths (r .count) names′ facts′ predicates′ starts′ lengths′ → FillsLine program output line names facts predicates starts lengths r names′ facts′ predicates′ starts′ lengths′
+  whole : r .code ≡ 0 → r .place ≡ text-start → (fs : Program true) → ReadAs true (part output line) (tree fs) → Filled program output line fs names facts predicates starts lengths (r .count) names′ facts′ predicates′ starts′ lengths′ → FillsLine program output line names facts predicates starts lengths r names′ facts′ predicates′ starts′ lengths′
   refuses : 2 ≤ r .code → r .count ≡ 0 → ReadAs true (part output line) (refused (r .code) (r .place)) → FillsLine program output line names facts predicates starts lengths r names′ facts′ predicates′ starts′ lengths′
 
 -- the same, once the predicates of so many facts are listed

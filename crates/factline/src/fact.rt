@@ -7,11 +7,12 @@ use syntax::token::Progress;
 use syntax::token::token_at;
 use syntax::word::WRONG;
 use terms::cursor::Cursor;
-use tokens::NOWHERE;
-use tokens::Place;
 use tokens::kind::DOT;
 use tokens::kind::END;
 use tokens::kind::IF;
+use tokens::place::Place;
+use tokens::place::TEXT_START;
+use tokens::place::past;
 use tokens::sizes::MOST_ARGUMENTS;
 
 // A fact's numbers, and where its first token starts. Where `ended`, there is none, because the line ends.
@@ -27,11 +28,7 @@ fn without(code: u8, place: Place, ended: bool) -> FactRead
     ensures { λ r. ⌜ r ≡ noFact code place ended ⌝ }
 {
     FactRead {
-        progress: Progress {
-            code,
-            place,
-            next: 0,
-        },
+        progress: Progress { code, place },
         ended,
         codes: AtomCodes {
             predicate: 0,
@@ -41,14 +38,13 @@ fn without(code: u8, place: Place, ended: bool) -> FactRead
     }
 }
 
-fn gone(codes: AtomCodes, start: usize, next: usize) -> FactRead
+fn gone(codes: AtomCodes, start: usize, next: Place) -> FactRead
     ensures { λ r. ⌜ r ≡ goneFact codes start next ⌝ }
 {
     FactRead {
         progress: Progress {
             code: 0,
-            place: NOWHERE,
-            next,
+            place: next,
         },
         ended: false,
         codes,
@@ -66,23 +62,23 @@ pub fn fact_at<'a>(
     cursor: Cursor,
 ) -> FactRead
     requires { ⌜ ReadyFact (now program) (now output) (now text) (now names) (now variables) cursor ⌝ }
-    ensures { λ r. ⌜ ReadsFact (now (program .entry)) (now (output .entry)) (now (names .entry)) (cursor .over) (now (text .entry)) (cursor .at) r (now (names .exit)) ⌝ }
+    ensures { λ r. ⌜ ReadsFact (now (program .entry)) (now (output .entry)) (now (names .entry)) (cursor .over) (now (text .entry)) (cursor .at .start) r (now (names .exit)) ⌝ }
 {
     let token = token_at(text, cursor.at, true);
     if token.kind == END {
-        return without(0, NOWHERE, true);
+        return without(0, TEXT_START, true);
     }
     if token.kind == IF {
         return without(WRONG, token.place, false);
     }
-    let read = atom_at(program, output, text, names, variables, cursor);
+    let read = atom_at(program, output, text, names, variables, cursor, token);
     if read.progress.code != 0 {
         return without(read.progress.code, read.progress.place, false);
     }
     let codes = read.codes;
-    let dot = token_at(text, read.progress.next, true);
+    let dot = token_at(text, read.progress.place, true);
     if dot.kind != DOT {
         return without(WRONG, dot.place, false);
     }
-    gone(codes, token.place.start, dot.next)
+    gone(codes, token.place.start, past(dot.place))
 }

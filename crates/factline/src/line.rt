@@ -12,9 +12,9 @@ use tables::FACT;
 use tables::row::put_row;
 use terms::cursor::Cursor;
 use terms::cursor::onward;
-use tokens::NOWHERE;
-use tokens::Place;
 use tokens::parts::part;
+use tokens::place::Place;
+use tokens::place::TEXT_START;
 use tokens::places::PLACE;
 use tokens::sizes::MOST_FACTS;
 use tokens::sizes::MOST_VARIABLES;
@@ -63,11 +63,11 @@ fn put_fact(
     ensures { λ _. ⌜ Put (now (facts .entry)) (now (starts .entry)) (now (lengths .entry)) number base fact (now (facts .exit)) (now (starts .exit)) (now (lengths .exit)) ⌝ }
 {
     let codes = fact.codes;
-    let progress = fact.progress;
+    let next = fact.progress.place;
     let row = fact_row(codes);
     put_row(facts, number * FACT, &row);
     starts[number] = (base + fact.start) as u32;
-    lengths[number] = (progress.next - fact.start) as u32;
+    lengths[number] = (next.start - fact.start) as u32;
 }
 
 // All facts of a line of the output: how many they are, with their rows and their places in the tables; or the refusal.
@@ -86,13 +86,13 @@ pub fn read_line<'a>(
     let text = part(output, line);
     let start = Cursor {
         base: program.len() + line.start,
-        at: 0,
+        at: TEXT_START,
         ground: true,
         over: false,
         met: 0,
     };
     let mut variables = [0u32; MOST_VARIABLES * PLACE];
-    let mut at = 0;
+    let mut at = TEXT_START;
     let mut count = 0;
     loop {
         let here = onward(start, at, MOST_FACTS <= count, 0);
@@ -101,10 +101,10 @@ pub fn read_line<'a>(
             return facts_read(read.progress.code, read.progress.place, 0);
         }
         if read.ended {
-            return facts_read(0, NOWHERE, count);
+            return facts_read(0, TEXT_START, count);
         }
         put_fact(facts, starts, lengths, count, line.start, read);
-        at = read.progress.next;
+        at = read.progress.place;
         count += 1;
     }
 }

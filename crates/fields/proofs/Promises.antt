@@ -1,13 +1,13 @@
 -- What `check` promises, in the words of its own type: when it refuses, when it hands on a claim, and when it gives each verdict
 -- for a program and a candidate that are read, with room and nothing out of range.
-use mathlib.Core.Path.{_≡_, refl, sym, ap, _∙_}
+use mathlib.Core.Path.{_≡_, refl, sym, ap, subst, _∙_}
 use mathlib.Core.Bool.{Bool, true, false}
 use mathlib.Core.Logic.{_↔_}
 use mathlib.Core.List.{List, _++_}
 use Prim.Native.Nat.{ℕ, _≤_}
 use native.Mathlib.Omega.{arith}
 use lib.ListN.{length, getD, take, drop}
-use Rattle.tokens.specs.declared.Place.{Place}
+use Rattle.tokens.specs.declared.place.Place.{Place}
 use Rattle.meaning.specs.Rules.{Bytes}
 use Rattle.meaning.specs.Values.{values}
 use Rattle.meaning.specs.AnswerSets.{Broken, Accepted}
@@ -22,9 +22,11 @@ use Rattle.promise.specs.Answer as paper
 use Rattle.promise.specs.Answered.{Check}
 use Rattle.promise.specs.Refusals.{Read, Case}
 use Rattle.promise.specs.Ready.{Ready}
+use Rattle.promise.specs.Located.{Located}
 use Rattle.promise.proofs.Numbers as numbers
 use Rattle.promise.proofs.Claims as claims
 use Rattle.promise.proofs.Rounds as rounds
+use Rattle.promise.proofs.Located as located
 use Rattle.promise.proofs.Demands as demands
 use Rattle.fields.specs.declared.answer.Kind.{Kind}
 use Rattle.fields.specs.declared.answer.Kind.the-variants as kinds
@@ -79,6 +81,14 @@ module _ (the-program the-output : Bytes) (code : ℕ) (places : List ℕ) (a : 
   -- its size is how many positions the answer shows: those of SMALLER, and none with any other kind
   pub kept-size : a .kept .size ≡ length (fields (h .answer) .kept)
   kept-size = h .says .nothing-else .well-kept ∙ sym (kept-sized (a .kept)) ∙ ap (λ (x : Fields). length (x .kept)) (h .says .zero)
+
+  -- ---- where its part stands
+
+  -- with the line and the column of its start, in the text that it names
+  pub part-located : Located the-program the-output (part-of (a .part))
+  part-located =
+      let f : fields-of a ≡ fields (h .answer) = h .says .zero in
+      subst (Located the-program the-output) (sym (ap (λ (x : Fields). x .part) f)) (located.part-located the-program the-output places code (h .answer) left (h .gives))
 
   -- ---- ROUNDS
 

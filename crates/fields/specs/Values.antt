@@ -2,8 +2,8 @@
 use mathlib.Core.List.{List}
 use Prim.Native.Nat.{ℕ}
 use lib.ListN.{replicate}
-use Rattle.tokens.specs.declared.Place.{Place}
-use Rattle.tokens.specs.Places.{nowhere}
+use Rattle.tokens.specs.declared.place.Place.{Place}
+use Rattle.tokens.specs.Place.{text-start}
 use Rattle.grammar.specs.Sizes.{most-literals}
 use Rattle.derived_set.specs.declared.Derived.{Derived}
 use Rattle.derived_set.specs.Members.{no-atoms}
@@ -15,7 +15,7 @@ use Rattle.fields.specs.declared.answer.Kind.the-variants.{Refused, Acce
 use Rattle.fields.specs.declared.answer.Answer.{Answer}
 
 abbrev pub no-part : Part
-no-part = record { text = Program; place = nowhere }
+no-part = record { text = Program; place = text-start }
 
 abbrev pub no-positions : List ℕ
 no-positions = replicate most-literals 0

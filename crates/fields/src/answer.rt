@@ -2,8 +2,8 @@
 ghost use mathlib.Core.Path.{_≡_};
 ghost use Rattle.fields.specs.Values.{refused, accepted, unsatisfied, smaller, claimed};
 use derived_set::Derived;
-use tokens::NOWHERE;
-use tokens::Place;
+use tokens::place::Place;
+use tokens::place::TEXT_START;
 use tokens::sizes::MOST_LITERALS;
 
 // The two lent texts.
@@ -54,7 +54,7 @@ pub fn claimed(kind: Kind) -> Answer
         number: 0,
         part: Part {
             text: Text::Program,
-            place: NOWHERE,
+            place: TEXT_START,
         },
         atoms: 0,
         rounds: 0,

@@ -1,16 +1,19 @@
 // The part of a fact that clashes with an earlier one.
 ghost use mathlib.Core.Path.{_≡_};
 ghost use Prim.Native.Nat.{_<_};
-ghost use lib.ListN.{length};
+ghost use lib.ListN.{length, getD};
+ghost use Rattle.tokens.specs.Place.{Countable};
 ghost use Rattle.fields.specs.Parts.{fact-place};
-use tokens::Place;
-use tokens::place_from;
+use tokens::place::Place;
+use tokens::place::along;
+use tokens::place::with_len;
 use tokens::places::number_at;
 
-// Where fact k of the candidate stands in the output, by the tables of all facts' starts and lengths.
-pub fn fact_part(starts: &[u32], lengths: &[u32], k: usize) -> Place
-    requires { ⌜ (k < length (now starts)) × (k < length (now lengths)) ⌝ }
-    ensures { λ r. ⌜ r ≡ fact-place (now (starts .entry)) (now (lengths .entry)) k ⌝ }
+// Where fact k of the candidate stands in the output, by its line and by the tables of all facts' starts and lengths.
+pub fn fact_part(line: Place, starts: &[u32], lengths: &[u32], k: usize) -> Place
+    requires { ⌜ (k < length (now starts)) × (k < length (now lengths)) × Countable line (getD (now starts) k 0) ⌝ }
+    ensures { λ r. ⌜ r ≡ fact-place line (now (starts .entry)) (now (lengths .entry)) k ⌝ }
 {
-    place_from(number_at(starts, k), number_at(lengths, k))
+    let start = along(line, number_at(starts, k));
+    with_len(start, number_at(lengths, k))
 }

@@ -2,8 +2,8 @@
 ghost use mathlib.Core.Path.{_≡_};
 ghost use Prim.Native.Nat.{_≤_};
 use libc::STDIN_FILENO;
-use tokens::parts::part;
-use tokens::place_from;
+use tokens::parts::bytes_in;
+use tokens::place::span_from;
 
 // The most bytes of a frame's first line.
 pub const MOST_LINE: usize = 64;
@@ -76,7 +76,7 @@ pub fn read_line(line: &mut [u8; MOST_LINE]) -> Line {
 
 // The words of a line of this length.
 pub fn words(line: &[u8; MOST_LINE], len: usize) -> &[u8] {
-    part(line, place_from(0, len))
+    bytes_in(line, span_from(0, len))
 }
 
 // No number: what is read at a place of the line is of no known form.

@@ -3,7 +3,7 @@ use mathlib.Core.Path.{_≡_}
 use mathlib.Core.Bool.{false}
 use mathlib.Core.List.{List, [], _∷_}
 use Prim.Native.Nat.{ℕ, _-_}
-use Rattle.tokens.specs.declared.Place.{Place}
+use Rattle.tokens.specs.declared.place.Place.{Place}
 use Rattle.tokens.specs.Places.{places-in}
 use Rattle.meaning.specs.Rules.{Bytes, Term, Literal}
 use Rattle.meaning.specs.Values.{Value}
@@ -26,7 +26,7 @@ pub record ReadyBehind (program output : Bytes) (names variables : List ℕ) (k 
 
 -- the row stands for the literal, beside the table of names afterwards; what has been read began at a place
 abbrev pub LiteralStands : Bytes → Bytes → List ℕ → ℕ → LiteralRead → List ℕ → Literal Value → Type 0
-LiteralStands program output names at r names′ l = Codes program output names (r .progress .next - at) (λ ns. CodedLiteral ns (r .row) l) names′
+LiteralStands program output names at r names′ l = Codes program output names (r .progress .place .start - at) (λ ns. CodedLiteral ns (r .row) l) names′
 
 -- the number stands for a term that was read before
 abbrev pub TermStands : Bytes → Bytes → List ℕ → ℕ → Term Value → Type 0
@@ -40,15 +40,15 @@ pub record ReadySide (program output : Bytes) (names variables : List ℕ) (k : 
 
 -- behind the right term, whatever terms the numbers stand for
 abbrev pub ReadsTail : Bytes → Bytes → List ℕ → List ℕ → Cursor → Sides → LiteralRead → List ℕ → List ℕ → Type 0
-ReadsTail program output names variables k c r names′ variables′ = (t u : Term Value) → TermStands program output names (c .left) t → TermStands program output names (c .right) u → Fills (tail-in t (comparison-at (c .comparison)) u) false program (k .at) (met-before variables k) (r .progress) (places-in variables′ (r .met)) (LiteralStands program output names (k .at) r names′)
+ReadsTail program output names variables k c r names′ variables′ = (t u : Term Value) → TermStands program output names (c .left) t → TermStands program output names (c .right) u → Fills (tail-in t (comparison-at (c .comparison)) u) false program (k .at .start) (met-before variables k) (r .progress) (places-in variables′ (r .met)) (LiteralStands program output names (k .at .start) r names′)
 
 -- behind the left term
 abbrev pub ReadsSide : Bytes → Bytes → List ℕ → List ℕ → Cursor → ℕ → LiteralRead → List ℕ → List ℕ → Type 0
-ReadsSide program output names variables k left r names′ variables′ = (t : Term Value) → TermStands program output names left t → Fills (side-in t) false program (k .at) (met-before variables k) (r .progress) (places-in variables′ (r .met)) (LiteralStands program output names (k .at) r names′)
+ReadsSide program output names variables k left r names′ variables′ = (t : Term Value) → TermStands program output names left t → Fills (side-in t) false program (k .at .start) (met-before variables k) (r .progress) (places-in variables′ (r .met)) (LiteralStands program output names (k .at .start) r names′)
 
 -- the cursor behind a left term that has been read
 abbrev pub behind-left : Cursor → TermRead → Cursor
-behind-left k left = onward k (left .progress .next) false (left .met)
+behind-left k left = onward k (left .progress .place) false (left .met)
 
 -- the left term's refusal passes on, or its right side is read
 pub data ReadsCompared (program output : Bytes) (names variables : List ℕ) (k : Cursor) (left : TermRead) (r : LiteralRead) (names′ variables′ : List ℕ) : Type 0 where
@@ -63,5 +63,5 @@ no-row = 0 ∷ 0 ∷ 0 ∷ 0 ∷ 0 ∷ 0 ∷ 0 ∷ 0 ∷ 0 ∷ 0 ∷ 0 ∷ 0 ∷
 abbrev pub stoppedLiteral : ℕ → Place → ℕ → LiteralRead
 stoppedLiteral code place met = record { progress = halted code place; row = no-row; met = met }
 
-abbrev pub goneLiteral : List ℕ → ℕ → ℕ → LiteralRead
+abbrev pub goneLiteral : List ℕ → Place → ℕ → LiteralRead
 goneLiteral row next met = record { progress = going next; row = row; met = met }

@@ -17,15 +17,15 @@ use Rattle.literals.specs.declared.builtin.LiteralRead.{LiteralRead}
 use Rattle.literals.specs.Builtins.{ReadyBehind, LiteralStands}
 
 abbrev pub ReadsLiteral : Bytes → Bytes → List ℕ → List ℕ → Cursor → LiteralRead → List ℕ → List ℕ → Type 0
-ReadsLiteral program output names variables k r names′ variables′ = Fills (literal-in-body (k .over)) (k .over) program (k .at) (met-before variables k) (r .progress) (places-in variables′ (r .met)) (LiteralStands program output names (k .at) r names′)
+ReadsLiteral program output names variables k r names′ variables′ = Fills (literal-in-body (k .over)) (k .over) program (k .at .start) (met-before variables k) (r .progress) (places-in variables′ (r .met)) (LiteralStands program output names (k .at .start) r names′)
 
 abbrev pub ReadsMinusLiteral : Bytes → Bytes → List ℕ → List ℕ → Cursor → LiteralRead → List ℕ → List ℕ → Type 0
-ReadsMinusLiteral program output names variables k r names′ variables′ = Fills minus-literal-in false program (k .at) (met-before variables k) (r .progress) (places-in variables′ (r .met)) (LiteralStands program output names (k .at) r names′)
+ReadsMinusLiteral program output names variables k r names′ variables′ = Fills minus-literal-in false program (k .at .start) (met-before variables k) (r .progress) (places-in variables′ (r .met)) (LiteralStands program output names (k .at .start) r names′)
 
 -- the cursor stands at a name
 pub record ReadyToken (program output : Bytes) (names variables : List ℕ) (k : Cursor) (t : TokenRead) : Type 0 where
   pub ready : ReadyBehind program output names variables k
-  pub is-token : t ≡ tokenRead false program (k .at)
+  pub is-token : t ≡ tokenRead false program (k .at .start)
   pub is-name : t .kind ≡ 0
 
 -- ---- what a part of it answers

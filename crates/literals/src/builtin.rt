@@ -14,10 +14,10 @@ use terms::cursor::Cursor;
 use terms::cursor::onward;
 use terms::term::TermRead;
 use terms::term::term_at;
-use tokens::NOWHERE;
-use tokens::Place;
 use tokens::kind::MINUS;
 use tokens::kind::TIMES;
+use tokens::place::Place;
+use tokens::place::past;
 
 // A literal's row, and how many variables have been met behind it.
 pub struct LiteralRead {
@@ -37,24 +37,19 @@ pub fn stopped(code: u8, place: Place, met: usize) -> LiteralRead
     ensures { λ r. ⌜ r ≡ stoppedLiteral code place met ⌝ }
 {
     LiteralRead {
-        progress: Progress {
-            code,
-            place,
-            next: 0,
-        },
+        progress: Progress { code, place },
         row: [0; LITERAL],
         met,
     }
 }
 
-fn gone(row: [u64; LITERAL], next: usize, met: usize) -> LiteralRead
+fn gone(row: [u64; LITERAL], next: Place, met: usize) -> LiteralRead
     ensures { λ r. ⌜ r ≡ goneLiteral row next met ⌝ }
 {
     LiteralRead {
         progress: Progress {
             code: 0,
-            place: NOWHERE,
-            next,
+            place: next,
         },
         row,
         met,
@@ -85,14 +80,15 @@ fn operation_at<'a>(
         let row = built_in_row(comparison, NO_OPERATION, left, right, 0);
         return gone(row, cursor.at, cursor.met);
     }
-    let behind = onward(cursor, token.next, false, cursor.met);
-    let read = term_at(program, output, program, names, variables, behind);
+    let behind = onward(cursor, past(token.place), false, cursor.met);
+    let next = token_at(program, behind.at, false);
+    let read = term_at(program, output, program, names, variables, behind, next);
     if read.progress.code != 0 {
         return stopped(read.progress.code, read.progress.place, read.met);
     }
     let operation = operation_code(token.kind);
     let row = built_in_row(comparison, operation, left, right, read.number);
-    gone(row, read.progress.next, read.met)
+    gone(row, read.progress.place, read.met)
 }
 
 // What stands behind the left term, whose number is `left`: a comparison, a term, and perhaps an operation and a term.
@@ -111,8 +107,9 @@ pub fn side_at<'a>(
     if !is_comparison(token.kind) {
         return stopped(WRONG, token.place, cursor.met);
     }
-    let behind = onward(cursor, token.next, false, cursor.met);
-    let read = term_at(program, output, program, names, variables, behind);
+    let behind = onward(cursor, past(token.place), false, cursor.met);
+    let next = token_at(program, behind.at, false);
+    let read = term_at(program, output, program, names, variables, behind, next);
     if read.progress.code != 0 {
         return stopped(read.progress.code, read.progress.place, read.met);
     }
@@ -121,7 +118,7 @@ pub fn side_at<'a>(
         comparison: comparison_code(token.kind),
         right: read.number,
     };
-    let end = onward(cursor, read.progress.next, false, read.met);
+    let end = onward(cursor, read.progress.place, false, read.met);
     operation_at(program, output, names, variables, end, sides)
 }
 
@@ -140,6 +137,6 @@ pub fn compared<'a>(
     if left.progress.code != 0 {
         return stopped(left.progress.code, left.progress.place, left.met);
     }
-    let behind = onward(cursor, left.progress.next, false, left.met);
+    let behind = onward(cursor, left.progress.place, false, left.met);
     side_at(program, output, names, variables, behind, left.number)
 }

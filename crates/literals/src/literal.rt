@@ -30,6 +30,7 @@ use tokens::kind::MINUS;
 use tokens::kind::NAME;
 use tokens::kind::NOT;
 use tokens::kind::NUMBER;
+use tokens::place::past;
 
 // The literal of an atom that has been read, or was refused.
 fn of_atom(sort: u64, read: AtomRead) -> LiteralRead
@@ -62,8 +63,8 @@ fn name_literal<'a>(
         return stopped(code, token.place, cursor.met);
     }
     let number = name_number(program, output, program, names, cursor.base, token.place);
-    let behind = onward(cursor, token.next, false, cursor.met);
-    let next = token_at(program, token.next, false);
+    let behind = onward(cursor, past(token.place), false, cursor.met);
+    let next = token_at(program, behind.at, false);
     if is_comparison(next.kind) {
         let left = FIRST_NAME + number as u64;
         return side_at(program, output, names, variables, behind, left);
@@ -108,7 +109,7 @@ pub fn literal_at<'a>(
     ensures { λ r. ⌜ ReadsLiteral (now (program .entry)) (now (output .entry)) (now (names .entry)) (now (variables .entry)) cursor r (now (names .exit)) (now (variables .exit)) ⌝ }
 {
     let token = token_at(program, cursor.at, false);
-    let behind = onward(cursor, token.next, false, cursor.met);
+    let behind = onward(cursor, past(token.place), false, cursor.met);
     if token.kind == NAME {
         return name_literal(program, output, names, variables, cursor, token);
     }
@@ -116,7 +117,8 @@ pub fn literal_at<'a>(
         if cursor.over {
             return stopped(OVER, token.place, cursor.met);
         }
-        let read = atom_at(program, output, program, names, variables, behind);
+        let next = token_at(program, behind.at, false);
+        let read = atom_at(program, output, program, names, variables, behind, next);
         return of_atom(NEGATED, read);
     }
     if token.kind == MINUS {
@@ -128,6 +130,6 @@ pub fn literal_at<'a>(
     if NUMBER < token.kind {
         return stopped(WRONG, token.place, cursor.met);
     }
-    let left = term_at(program, output, program, names, variables, cursor);
+    let left = term_at(program, output, program, names, variables, cursor, token);
     compared(program, output, names, variables, cursor, left)
 }

@@ -1,6 +1,16 @@
 // The program's arguments, and the files that they name.
 use tokens::parts::same_bytes;
 
+// The argument that says what is asked for.
+pub const WORD: usize = 1;
+
+// The arguments behind it, in their order.
+pub const PROGRAM: usize = 2;
+
+pub const OUTPUT: usize = 3;
+
+pub const CODE: usize = 4;
+
 // Room for one byte more than a text may have, so that a longer file is too long here as well.
 const ROOM: usize = 65537;
 

@@ -5,8 +5,8 @@ use mathlib.Core.List.{List, [], _∷_, _++_}
 use Prim.Native.Nat.{ℕ}
 use native.Mathlib.Omega.{arith}
 use lib.ListN.{length}
-use Rattle.tokens.specs.declared.Place.{Place}
-use Rattle.tokens.specs.Places.{place-from}
+use Rattle.tokens.specs.declared.place.Span.{Span}
+use Rattle.tokens.specs.Places.{span-from}
 use Rattle.meaning.specs.Rules.{Bytes}
 use Rattle.names.specs.declared.Found.{Found}
 use Rattle.names.specs.declared.Found.the-variants.{At, Nothing}
@@ -23,9 +23,9 @@ not-there : (names : List Bytes) (name : Bytes) (f : Found) → f ≡ Nothing �
 not-there names name (At i) e h = absurd (let z : _≡_ {A = ℕ} 0 1 = cc in let y : ⊥ = omega arith in y)
 not-there names name Nothing e h = h
 
-module _ (program output : Bytes) (table : List ℕ) (t : Table program output table) (start : ℕ) (name : Bytes) (b : name ≡ bytes-at program output (place-from start (length name))) (f : Found) (finds : Finds (names-of program output table) name f) where
-  abbrev place : Place
-  place = place-from start (length name)
+module _ (program output : Bytes) (table : List ℕ) (t : Table program output table) (start : ℕ) (name : Bytes) (b : name ≡ bytes-at program output (span-from start (length name))) (f : Found) (finds : Finds (names-of program output table) name f) where
+  abbrev span : Span
+  span = span-from start (length name)
 
   pub interned-held : (i : ℕ) → f ≡ At i → Interns program output table name table f
   interned-held i e = go f e finds
@@ -39,29 +39,29 @@ module _ (program output : Bytes) (table : List ℕ) (t : Table program output t
     interned-full m = (refl, inr (not-there _ _ f none finds, length-first (name-at program output table) (count table) ∙ sym c ∙ m))
 
     module _ (slot : ℕ) (s : slot ≡ slot-of name) (nonempty : length name ≡ 0 → ⊥) (room : n ≡ capacity (length table) → ⊥) where
-      filled : bytes-at program output place ≡ [] → ⊥
+      filled : bytes-at program output span ≡ [] → ⊥
       filled e = nonempty (ap length (b ∙ e))
 
-      pub addable : Addable table slot place
+      pub addable : Addable table slot span
       addable =
           let below = slot-inside slot name s in
           record {
             size = t .size;
             room = let r = t .room in omega arith;
             in-slots = below;
-            start-fits = let i = starts-inside program output place filled in let p = t .program-size in let o = t .output-size in omega arith;
-            len-fits = let l = no-longer program output place in let p = t .program-size in let o = t .output-size in omega (arith, ap length b);
+            start-fits = let i = starts-inside program output span filled in let p = t .program-size in let o = t .output-size in omega arith;
+            len-fits = let l = no-longer program output span in let p = t .program-size in let o = t .output-size in omega (arith, ap length b);
             link-fits = let w = t .heads slot below .within in let r = t .room in omega arith;
           }
 
-      pub interned-new : Interns program output table name (with-row table slot place) (At n)
-      interned-new = (table-more program output table slot place addable t (s ∙ ap slot-of b) (subst (Absent (names-of program output table)) b absent) filled, rw (more, number) (added absent), length-after table slot place)
+      pub interned-new : Interns program output table name (with-row table slot span) (At n)
+      interned-new = (table-more program output table slot span addable t (s ∙ ap slot-of b) (subst (Absent (names-of program output table)) b absent) filled, rw (more, number) (added absent), length-after table slot span)
         where
           absent : Absent (names-of program output table) name
           absent = not-there _ _ f none finds
 
-          more : names-of program output (with-row table slot place) ≡ names-of program output table ++ (name ∷ [])
-          more = names-more program output table slot place addable ∙ ap (λ (r : Bytes). names-of program output table ++ (r ∷ [])) (sym b)
+          more : names-of program output (with-row table slot span) ≡ names-of program output table ++ (name ∷ [])
+          more = names-more program output table slot span addable ∙ ap (λ (r : Bytes). names-of program output table ++ (r ∷ [])) (sym b)
 
           number : n ≡ length (names-of program output table)
           number = c ∙ sym (length-first (name-at program output table) (count table))

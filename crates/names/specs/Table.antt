@@ -4,8 +4,8 @@ use mathlib.Core.Path.{_≡_}
 use mathlib.Core.List.{List, [], _∷_, _++_}
 use Prim.Native.Nat.{ℕ, zero, suc, _+_, _-_, _*_, _/_, _%_, _≤_, _<_, min}
 use lib.ListN.{length, getD, set}
-use Rattle.tokens.specs.declared.Place.{Place}
-use Rattle.tokens.specs.Places.{place-from, number-limit}
+use Rattle.tokens.specs.declared.place.Span.{Span}
+use Rattle.tokens.specs.Places.{span-from, number-limit}
 use Rattle.tokens.specs.Sizes.{most-text}
 use Rattle.meaning.specs.Rules.{Bytes}
 use Rattle.codes.specs.Codes.{Distinct}
@@ -54,13 +54,13 @@ abbrev pub link : List ℕ → ℕ → ℕ
 link table i = getD table (row i + 2) 0
 
 -- where a name's bytes stand in the two texts
-abbrev pub place-of : List ℕ → ℕ → Place
-place-of table i = place-from (getD table (row i) 0) (getD table (row i + 1) 0)
+abbrev pub span-of : List ℕ → ℕ → Span
+span-of table i = span-from (getD table (row i) 0) (getD table (row i + 1) 0)
 
 -- ---- the names that a table stands for
 
 unfoldable pub name-at : Bytes → Bytes → List ℕ → ℕ → Bytes
-name-at program output table i = bytes-at program output (place-of table i)
+name-at program output table i = bytes-at program output (span-of table i)
 
 -- the first n of a family, in order
 unfoldable pub first : (ℕ → Bytes) → ℕ → List Bytes
@@ -103,16 +103,16 @@ pub record Table (program output : Bytes) (table : List ℕ) : Type 0 where
 -- ---- a row more
 
 -- there is room for it, and what it holds fits
-pub record Addable (table : List ℕ) (slot : ℕ) (place : Place) : Type 0 where
+pub record Addable (table : List ℕ) (slot : ℕ) (span : Span) : Type 0 where
   pub size : first-row ≤ length table
   pub room : count table < capacity (length table)
   pub in-slots : slot < slots
-  pub start-fits : place .start < number-limit
-  pub len-fits : place .len < number-limit
+  pub start-fits : span .start < number-limit
+  pub len-fits : span .len < number-limit
   pub link-fits : head table slot < number-limit
 
 -- its link is its slot's head, and then the head is one more than its number
-unfoldable pub with-row : List ℕ → ℕ → Place → List ℕ
-with-row table slot place =
+unfoldable pub with-row : List ℕ → ℕ → Span → List ℕ
+with-row table slot span =
     let n = count table in
-    set (set (set (set (set table (row n) (place .start)) (row n + 1) (place .len)) (row n + 2) (head table slot)) (slot + 1) (n + 1)) 0 (n + 1)
+    set (set (set (set (set table (row n) (span .start)) (row n + 1) (span .len)) (row n + 2) (head table slot)) (slot + 1) (n + 1)) 0 (n + 1)

@@ -1,16 +1,16 @@
--- A place in the two lent texts: the output counts on behind the program.
-use Prim.Native.Nat.{ℕ, _-_}
+-- A span of the two lent texts: the output counts on behind the program.
+use Prim.Native.Nat.{_-_}
 use mathlib.Core.Bool.{cond}
 use lib.Dec.{ltb}
 use lib.ListN.{length}
-use Rattle.tokens.specs.declared.Place.{Place}
-use Rattle.tokens.specs.Tokens.{part}
-use Rattle.tokens.specs.Places.{place-from}
+use Rattle.tokens.specs.declared.place.Span.{Span}
+use Rattle.tokens.specs.Tokens.{bytes-in}
+use Rattle.tokens.specs.Places.{span-from}
 use Rattle.meaning.specs.Rules.{Bytes}
 
--- the bytes of a place: in the program where it starts there, else in the output
-unfoldable pub bytes-at : Bytes → Bytes → Place → Bytes
-bytes-at program output place =
-    cond (ltb (place .start) (length program))
-    (part program place)
-    (part output (place-from (place .start - length program) (place .len)))
+-- the bytes of a span: in the program where it starts there, else in the output
+unfoldable pub bytes-at : Bytes → Bytes → Span → Bytes
+bytes-at program output span =
+    cond (ltb (span .start) (length program))
+    (bytes-in program span)
+    (bytes-in output (span-from (span .start - length program) (span .len)))

@@ -2,14 +2,13 @@
 // The bytes stay where they are, in the program or in the solver's output.
 ghost use mathlib.Core.Path.{_≡_};
 ghost use lib.ListN.{length};
-ghost use Rattle.tokens.specs.Places.{place-from};
+ghost use Rattle.tokens.specs.Places.{span-from};
 ghost use Rattle.names.specs.Texts.{bytes-at};
 ghost use Rattle.names.specs.Table.{most-names, few-names, Table, names-of, bytes-of, slot-of};
 ghost use Rattle.names.specs.Numbering.{Empty, Finds, Interns};
 use text::bytes_at;
-use tokens::NOWHERE;
 use tokens::parts::same_bytes;
-use tokens::place_from;
+use tokens::place::span_from;
 use tokens::sizes::MOST_TEXT;
 
 pub mod bytewise;
@@ -55,7 +54,7 @@ fn seek<'a>(program: &'a [u8], output: &'a [u8], table: &[u32], name: &[u8], slo
     let mut link = table::head(table, slot);
     while 0 < link {
         let number = link - 1;
-        if same_bytes(bytes_at(program, output, table::place(table, number)), name) {
+        if same_bytes(bytes_at(program, output, table::span(table, number)), name) {
             return Found::At(number);
         }
         link = table::link(table, number);
@@ -72,7 +71,7 @@ pub fn intern<'a>(
     name: &'a [u8],
     start: usize,
 ) -> Found
-    requires { ⌜ Table (now program) (now output) (now table) × (now name ≡ bytes-at (now program) (now output) (place-from start (length (now name)))) ⌝ }
+    requires { ⌜ Table (now program) (now output) (now table) × (now name ≡ bytes-at (now program) (now output) (span-from start (length (now name)))) ⌝ }
     ensures { λ r. ⌜ Interns (now (program .entry)) (now (output .entry)) (now (table .entry)) (now (name .entry)) (now (table .exit)) r ⌝ }
 {
     if name.len() == 0 {
@@ -87,7 +86,7 @@ pub fn intern<'a>(
     if number == table::capacity(&*table) {
         return Found::Nothing;
     }
-    table::add(table, slot, place_from(start, name.len()));
+    table::add(table, slot, span_from(start, name.len()));
     Found::At(number)
 }
 
@@ -97,7 +96,7 @@ pub fn bytes_of<'a>(program: &'a [u8], output: &'a [u8], table: &[u32], number: 
     ensures { λ r. ⌜ now r ≡ bytes-of (now (program .entry)) (now (output .entry)) (now (table .entry)) number ⌝ }
 {
     if table::count(table) <= number {
-        return bytes_at(program, output, NOWHERE);
+        return bytes_at(program, output, span_from(0, 0));
     }
-    bytes_at(program, output, table::place(table, number))
+    bytes_at(program, output, table::span(table, number))
 }

@@ -2,11 +2,11 @@
 ghost use mathlib.Core.Path.{_≡_};
 ghost use Prim.Native.Nat.{_≤_, _<_};
 ghost use lib.ListN.{length};
-ghost use Rattle.names.specs.Table.{slots, first-row, capacity, slot-of, count, head, link, place-of, with-row, Addable};
+ghost use Rattle.names.specs.Table.{slots, first-row, capacity, slot-of, count, head, link, span-of, with-row, Addable};
 use crate::MOST_NAMES;
-use tokens::Place;
 use tokens::parts::least;
-use tokens::place_from;
+use tokens::place::Span;
+use tokens::place::span_from;
 use tokens::places::number_at;
 use tokens::places::put_number;
 
@@ -80,24 +80,24 @@ pub fn link(table: &[u32], number: usize) -> usize
 }
 
 // Where a name's bytes stand in the two texts.
-pub fn place(table: &[u32], number: usize) -> Place
+pub fn span(table: &[u32], number: usize) -> Span
     requires { ⌜ number < capacity (length (now table)) ⌝ }
-    ensures { λ r. ⌜ r ≡ place-of (now (table .entry)) number ⌝ }
+    ensures { λ r. ⌜ r ≡ span-of (now (table .entry)) number ⌝ }
 {
     let at = FIRST_ROW + number * ROW;
-    place_from(number_at(table, at), number_at(table, at + LEN))
+    span_from(number_at(table, at), number_at(table, at + LEN))
 }
 
-// A row more, for a name at a place: its link is the head of its slot, and then the head is one more than its number.
-pub fn add(table: &mut [u32], slot: usize, place: Place)
-    requires { ⌜ Addable (now table) slot place ⌝ }
-    ensures { λ _. ⌜ now (table .exit) ≡ with-row (now (table .entry)) slot place ⌝ }
+// A row more, for a name whose bytes these are: its link is the head of its slot, and then the head is one more than its number.
+pub fn add(table: &mut [u32], slot: usize, span: Span)
+    requires { ⌜ Addable (now table) slot span ⌝ }
+    ensures { λ _. ⌜ now (table .exit) ≡ with-row (now (table .entry)) slot span ⌝ }
 {
     let number = count(&*table);
     let link = head(&*table, slot);
     let at = FIRST_ROW + number * ROW;
-    put_number(table, at, place.start);
-    put_number(table, at + LEN, place.len);
+    put_number(table, at, span.start);
+    put_number(table, at + LEN, span.len);
     put_number(table, at + LINK, link);
     put_number(table, slot + FIRST_HEAD, number + 1);
     put_number(table, COUNT, number + 1);

@@ -1,18 +1,18 @@
-// The bytes of a place in the two lent texts, where the output counts on behind the program.
+// The bytes of a span of the two lent texts, where the output counts on behind the program.
 ghost use mathlib.Core.Path.{_≡_};
 ghost use Rattle.names.specs.Texts.{bytes-at};
-use tokens::Place;
-use tokens::parts::part;
-use tokens::place_from;
+use tokens::parts::bytes_in;
+use tokens::place::Span;
+use tokens::place::span_from;
 
-// The bytes of a place, a part of whichever text it starts in; of a place that reaches past that text, those that are there.
-pub fn bytes_at<'a>(program: &'a [u8], output: &'a [u8], place: Place) -> &'a [u8]
-    ensures { λ r. ⌜ now r ≡ bytes-at (now (program .entry)) (now (output .entry)) place ⌝ }
+// The bytes of a span, a part of whichever text it starts in; of a span that reaches past that text, those that are there.
+pub fn bytes_at<'a>(program: &'a [u8], output: &'a [u8], span: Span) -> &'a [u8]
+    ensures { λ r. ⌜ now r ≡ bytes-at (now (program .entry)) (now (output .entry)) span ⌝ }
 {
-    let start = place.start;
+    let start = span.start;
     if start < program.len() {
-        return part(program, place);
+        return bytes_in(program, span);
     }
     let behind = start - program.len();
-    part(output, place_from(behind, place.len))
+    bytes_in(output, span_from(behind, span.len))
 }

@@ -2,17 +2,19 @@
 use mathlib.Core.Path.{_≡_, refl, sym as inv, ap, subst, _∙_}
 use mathlib.Core.Bool.{Bool, true, false, cond}
 use mathlib.Core.List.{List, [], _∷_}
-use Prim.Native.Nat.{ℕ, _+_, _*_, _≤_, _<_}
+use Prim.Native.Nat.{ℕ, _+_, _*_, _≤_, _<_, _-_}
 use native.Mathlib.Omega.{arith}
 use lib.Dec.{eqb}
 use lib.ListN.{length, length-take, length-drop}
+use Rattle.tokens.specs.declared.place.Span.{Span}
+use Rattle.tokens.proofs.Counting.{as-from, countable, along-stands}
 use borrow.Author.Tests.{eq-eqb, ne-eqb}
-use Rattle.tokens.specs.declared.Place.{Place}
+use Rattle.tokens.specs.declared.place.Place.{Place}
 use Rattle.tokens.specs.Tokens.{part}
 use Rattle.reading.specs.Reading.{refused as refused-tree}
 use Rattle.meaning.specs.Rules.{Bytes}
 use Rattle.grammar.specs.Trees.{Program}
-use Rattle.tokens.specs.Places.{nowhere}
+use Rattle.tokens.specs.Place.{text-start, along, Countable}
 use Rattle.tokens.specs.Sizes.{most-text}
 use Rattle.syntax.specs.Programs.{ReadAs}
 use Rattle.rule_places.proofs.Inside.{refused-inside}
@@ -20,7 +22,7 @@ use Rattle.report.specs.declared.Report.{Report as ReportRead}
 use Rattle.report.specs.declared.word.Word.{Word}
 use Rattle.report.specs.declared.word.Word.the-variants.{Answer, Inconsistent, Unknown}
 use Rattle.report.specs.declared.around.Found.{Found}
-use Rattle.report.specs.declared.around.Found.the-variants.{Nothing, Line}
+use Rattle.report.specs.declared.around.Found.the-variants.{End, Line}
 use Rattle.report.specs.Around.{OutOfPlace}
 use Rattle.report.specs.Report.{refused, found, reported, Reported, missing, stray, says}
 use Rattle.report.proofs.Inside.{reported-inside}
@@ -32,15 +34,15 @@ use Rattle.rows.proofs.Growth.{room-less}
 use Rattle.tables.specs.Layout.{fact-stride}
 use Rattle.factline.specs.Lines.{most-facts, Fillable, FillsLine, whole, refuses}
 use Rattle.output.specs.declared.OutputRead.{OutputRead}
-use Rattle.output.specs.Output.{Report, facts, claim-none, claim-unknown, Opened, Opening, opens, on-line, Closing, Behind}
-use Rattle.output.specs.Answers.{refused as refused-fields, reported as reported-fields, report-fields, line-fields, Closes}
+use Rattle.output.specs.Output.{Report, facts, claim-none, claim-unknown, Opened, Opening, opens, on-line, Closing, Behind, OneLine}
+use Rattle.output.specs.Answers.{refused as refused-fields, reported as reported-fields, report-fields, line-fields, Closes, counted-on}
 use Rattle.output.specs.Tables.{OutputTables, Lent, FactsHeld, FillsStage, FillsOutput}
 
 -- ---- the lines behind the report
 
 module _ (text : Bytes) (at : ℕ) (f : Found) (o : OutOfPlace text at f) (said : OutputRead) where
-  pub closed-idle : f ≡ Nothing → Closes text at said said
-  closed-idle e = Closes.closes (rw e at o) refl
+  pub closed-idle : (end : Place) → f ≡ End end → Closes text at said said
+  closed-idle end e = Closes.closes end (rw e at o) refl
 
   pub closed-stray : said .code ≡ 0 → (line : Place) → f ≡ Line line → (r : OutputRead) → r ≡ refused-fields 2 line → Closes text at said r
   closed-stray z line e r q = Closes.stray z line (rw e at o) q
@@ -48,13 +50,13 @@ module _ (text : Bytes) (at : ℕ) (f : Found) (o : OutOfPlace text at f) (said 
 -- ---- what a facts line says, by its number
 
 module _ (line : Place) (f : FactsRead) where
-  by-code : (b : Bool) → eqb (f .code) 0 ≡ b → line-fields line f ≡ cond b (reported-fields Answer (f .count)) (refused-fields (f .code) (on-line line (f .place)))
-  by-code b e = ap (λ t. cond t (reported-fields Answer (f .count)) (refused-fields (f .code) (on-line line (f .place)))) e
+  by-code : (b : Bool) → eqb (f .code) 0 ≡ b → line-fields line f ≡ cond b (reported-fields Answer line (f .count)) (refused-fields (f .code) (counted-on line (f .place)))
+  by-code b e = ap (λ t. cond t (reported-fields Answer line (f .count)) (refused-fields (f .code) (counted-on line (f .place)))) e
 
-  pub line-facts : f .code ≡ 0 → line-fields line f ≡ reported-fields Answer (f .count)
+  pub line-facts : f .code ≡ 0 → line-fields line f ≡ reported-fields Answer line (f .count)
   line-facts z = by-code true (eq-eqb (f .code) 0 z)
 
-  pub line-refused : (f .code ≡ 0 → ⊥) → line-fields line f ≡ refused-fields (f .code) (on-line line (f .place))
+  pub line-refused : (f .code ≡ 0 → ⊥) → line-fields line f ≡ refused-fields (f .code) (counted-on line (f .place))
   line-refused n = by-code false (ne-eqb (f .code) 0 n)
 
 -- ---- a report
@@ -72,6 +74,13 @@ none-claims line fs e = let z : _≡_ {A = ℕ} 0 1 = cc in omega arith
 unknown-claims : (line : Place) (fs : Program true) → claim-unknown ≡ facts line fs → ⊥
 unknown-claims line fs e = let z : _≡_ {A = ℕ} 0 1 = cc in omega arith
 
+-- a place counted on from the line's is that of the output
+pub counted-on-line : (text : Bytes) (line : Place) → OneLine text line → (p : Place) → p .start ≤ line .len → counted-on line p ≡ on-line text line p
+counted-on-line text line straight p h =
+    let byte = line .start + p .start in
+    let e : byte - line .start ≡ p .start = omega arith in
+    as-from text (along line byte) (along-stands text line (straight .stands) byte (omega arith) (rw e (omega (arith, straight .unbroken)))) (p .len)
+
 module _ (program text : Bytes) (t u : OutputTables) where
   -- a refusal fills nothing
   refusal-fills : {S : Stage Report} (n : ℕ) (p : Part) → S (stop n p) → (r : OutputRead) → r ≡ refused-fields n (p .place) → FillsStage S program text t r u
@@ -81,7 +90,7 @@ module _ (program text : Bytes) (t u : OutputTables) where
   module _ (at : ℕ) (said : OutputRead) (x : Report) (e : said ≡ report-fields x) (held : (line : Place) (fs : Program true) → x ≡ facts line fs → FactsHeld program text line fs t (said .count) u) (r : OutputRead) where
     closing-fills : Closes text at said r → FillsStage (Closing x text at) program text t r u
     closing-fills (Closes.refuses n q) = absurd (n (ap (λ (y : OutputRead). y .code) e ∙ report-code x))
-    closing-fills (Closes.closes o q) = record { given = record { outcome = on x; stage = Closing.closes o; so = q ∙ e }; filled = λ line fs y. rw q (held line fs (on-inj y)) }
+    closing-fills (Closes.closes end o q) = record { given = record { outcome = on x; stage = Closing.closes end o; so = q ∙ e }; filled = λ line fs y. rw q (held line fs (on-inj y)) }
     closing-fills (Closes.stray z line o q) = refusal-fills 2 (in-text output line) (Closing.stray line o) r q
 
   pub closing-none : (at : ℕ) (said : OutputRead) → said ≡ report-fields claim-none → (r : OutputRead) → Closes text at said r → FillsStage (Closing claim-none text at) program text t r u
@@ -92,40 +101,43 @@ module _ (program text : Bytes) (t u : OutputTables) where
 
   -- ---- behind ANSWER
 
-  module _ (line : Place) (ask : Fillable program text line (t .names) (t .facts) (t .starts) (t .lengths)) (f : FactsRead) (g : FillsLine program text line (t .names) (t .facts) (t .predicates) (t .starts) (t .lengths) f (u .names) (u .facts) (u .predicates) (u .starts) (u .lengths)) where
+  module _ (line : Place) (straight : OneLine text line) (ask : Fillable program text line (t .names) (t .facts) (t .starts) (t .lengths)) (f : FactsRead) (g : FillsLine program text line (t .names) (t .facts) (t .predicates) (t .starts) (t .lengths) f (u .names) (u .facts) (u .predicates) (u .starts) (u .lengths)) where
     abbrev Line-read : Type 0
     Line-read = FillsLine program text line (t .names) (t .facts) (t .predicates) (t .starts) (t .lengths) f (u .names) (u .facts) (u .predicates) (u .starts) (u .lengths)
 
     line-length : length (part text line) ≤ line .len
     line-length = simp (length-take, length-drop) (omega arith)
 
-    -- a place on the line lies in the output
-    pub on-line-small : line .start + f .place .start ≤ most-text
-    on-line-small = go g
+    -- a place on the line lies on it
+    on-the-line : f .place .start ≤ line .len
+    on-the-line = go g
       where
-        go : Line-read → line .start + f .place .start ≤ most-text
-        go (whole c p fs h w) = let z : f .place .start ≡ 0 = ap (λ (x : Place). x .start) p in omega (arith, ask .inside, ask .room .in-order .output-size)
-        go (refuses c n h) = omega (arith, refused-inside true (part text line) (f .code) (f .place) h, line-length, ask .inside, ask .room .in-order .output-size)
+        go : Line-read → f .place .start ≤ line .len
+        go (whole c p fs h w) = let z : f .place .start ≡ 0 = ap (λ (x : Place). x .start) p in omega arith
+        go (refuses c n h) = omega (arith, refused-inside true (part text line) (f .code) (f .place) h, line-length)
+
+    pub on-line-countable : Countable line (line .start + f .place .start)
+    on-line-countable = let l = on-the-line in let o = ask .room .in-order .output-size in let i = ask .inside in countable text line (straight .stands) (line .start + f .place .start) (omega arith) (omega arith) (omega arith)
 
     -- a refusal of the line stays, whatever stands behind it
-    answer-refused : (next : ℕ) → (f .code ≡ 0 → ⊥) → ReadAs true (part text line) (refused-tree (f .code) (f .place)) → (said : OutputRead) → said ≡ refused-fields (f .code) (on-line line (f .place)) → (r : OutputRead) → Closes text next said r → FillsStage (Behind text Answer line next) program text t r u
-    answer-refused next n h said e r k = refusal-fills (f .code) (in-text output (on-line line (f .place))) (stops _ _ (fault (f .code) (f .place) h)) r (stays k ∙ e)
+    answer-refused : (next : ℕ) → (f .code ≡ 0 → ⊥) → ReadAs true (part text line) (refused-tree (f .code) (f .place)) → (said : OutputRead) → said ≡ refused-fields (f .code) (counted-on line (f .place)) → (r : OutputRead) → Closes text next said r → FillsStage (Behind text Answer line next) program text t r u
+    answer-refused next n h said e r k = refusal-fills (f .code) (in-text output (on-line text line (f .place))) (stops _ _ (fault (f .code) (f .place) h)) r (stays k ∙ e ∙ ap (refused-fields (f .code)) (counted-on-line text line straight (f .place) on-the-line))
       where
         stays : Closes text next said r → r ≡ said
         stays (Closes.refuses m q) = q
-        stays (Closes.closes o q) = q
+        stays (Closes.closes end o q) = q
         stays (Closes.stray z l o q) = absurd (n (inv (ap (λ (y : OutputRead). y .code) e) ∙ z))
 
     pub answer-closed : (next : ℕ) (said : OutputRead) → said ≡ line-fields line f → (r : OutputRead) → Closes text next said r → FillsStage (Behind text Answer line next) program text t r u
     answer-closed next said q r k = go g
       where
-        held : (fs : Program true) → said ≡ reported-fields Answer (f .count) → FactsHeld program text line fs t (f .count) u → (l : Place) (gs : Program true) → facts line fs ≡ facts l gs → FactsHeld program text l gs t (said .count) u
+        held : (fs : Program true) → said ≡ reported-fields Answer line (f .count) → FactsHeld program text line fs t (f .count) u → (l : Place) (gs : Program true) → facts line fs ≡ facts l gs → FactsHeld program text l gs t (said .count) u
         held fs e w l gs y = let a : line ≡ l = cc in let b : fs ≡ gs = cc in let n : said .count ≡ f .count = ap (λ (x : OutputRead). x .count) e in rw (← a, ← b, n) w
 
         go : Line-read → FillsStage (Behind text Answer line next) program text t r u
         go (whole c p fs h w) =
-            let e : said ≡ reported-fields Answer (f .count) = q ∙ line-facts line f c in
-            let d = closing-fills next said (facts line fs) (e ∙ ap (reported-fields Answer) (w .size)) (held fs e w) r k in
+            let e : said ≡ reported-fields Answer line (f .count) = q ∙ line-facts line f c in
+            let d = closing-fills next said (facts line fs) (e ∙ ap (reported-fields Answer line) (w .size)) (held fs e w) r k in
             record { given = record { outcome = d .given .outcome; stage = goes fs (d .given .outcome) (read fs h) (d .given .stage); so = d .given .so }; filled = d .filled }
         go (refuses c n h) =
             let some : f .code ≡ 0 → ⊥ = λ z. omega arith in
@@ -138,7 +150,7 @@ pub data Shape (p : ReportRead) : Type 0 where
   is-refused : p ≡ refused (p .place) → Shape p
   is-found : p ≡ found (p .word) (p .facts) (p .next) → Shape p
 
-said-shape : (text : Bytes) (word : Word) (behind : List Place) → Shape (reported text word behind)
+said-shape : (text : Bytes) (word : Word) (behind : List Span) → Shape (reported text word behind)
 said-shape text Answer [] = is-refused refl
 said-shape text Answer (l ∷ ls) = is-found refl
 said-shape text Inconsistent ls = is-found refl
@@ -156,12 +168,16 @@ line-fillable program text t size p g lent =
     let within : length text ≤ most-text = omega arith in
     record { inside = omega arith; room = room-less program text (p .facts .len) (lent .room within) (omega arith); facts-long = lent .facts-long; starts-long = lent .starts-long; lengths-long = lent .lengths-long }
 
+-- .. and has no newline
+pub line-straight : (text : Bytes) (p : ReportRead) → Reported text p → OneLine text (p .facts)
+line-straight text p g = let i = reported-inside text g in record { stands = i .facts-stands; unbroken = i .one-line }
+
 -- so many rows stand in a table that has room for all facts
 pub rows-within : (n before left : ℕ) → n ≤ most-facts → 9_216 ≤ before → left ≡ before → n * fact-stride ≤ left
 rows-within n before left few long same = omega arith
 
 module _ (program text : Bytes) (t u : OutputTables) where
-  pub too-long : most-text < length text → (r : OutputRead) → r ≡ refused-fields 1 nowhere → FillsOutput program text t r u
+  pub too-long : most-text < length text → (r : OutputRead) → r ≡ refused-fields 1 text-start → FillsOutput program text t r u
   too-long h r q = refusal-fills program text t u 1 (start-of output) (stops 1 (start-of output) (given h)) r q
 
   module _ (size : most-text < length text → ⊥) (p : ReportRead) (g : Reported text p) where
@@ -175,14 +191,14 @@ module _ (program text : Bytes) (t u : OutputTables) where
             refusal-fills program text t u 2 part (goes tt (stop 2 part) (passed size) (stops 2 part (Opening.refuses (p .place) (subst (Reported text) s g)))) r (q ∙ ap (λ (n : ℕ). refused-fields n (p .place)) two)
         go (is-found s) = absurd (e (ap (λ (x : ReportRead). x .code) s))
 
-    pub goes-behind : p .code ≡ 0 → (word : Word) → p .word ≡ word → (r : OutputRead) → FillsStage (Behind text word (p .facts) (p .next)) program text t r u → FillsOutput program text t r u
+    pub goes-behind : p .code ≡ 0 → (word : Word) → p .word ≡ word → (r : OutputRead) → FillsStage (Behind text word (p .facts) (p .next .start)) program text t r u → FillsOutput program text t r u
     goes-behind e word w r d = go (shape text g)
       where
         go : Shape p → FillsOutput program text t r u
         go (is-refused s) = absurd (let z : p .code ≡ 2 = ap (λ (x : ReportRead). x .code) s in omega arith)
         go (is-found s) =
             let o : Opened = record { word = p .word; line = p .facts; next = p .next } in
-            let b : FillsStage (Behind text (p .word) (p .facts) (p .next)) program text t r u = subst (λ (v : Word). FillsStage (Behind text v (p .facts) (p .next)) program text t r u) (inv w) d in
+            let b : FillsStage (Behind text (p .word) (p .facts) (p .next .start)) program text t r u = subst (λ (v : Word). FillsStage (Behind text v (p .facts) (p .next .start)) program text t r u) (inv w) d in
             record {
               given = record {
                 outcome = b .given .outcome;

@@ -4,7 +4,7 @@ use mathlib.Core.Bool.{true}
 use Prim.Native.Nat.{ℕ, _<_}
 use native.Mathlib.Omega.{arith}
 use lib.ListN.{length}
-use Rattle.tokens.specs.declared.Place.{Place}
+use Rattle.tokens.specs.declared.place.Place.{Place}
 use Rattle.tokens.specs.Tokens.{part}
 use Rattle.tokens.specs.Sizes.{most-text}
 use Rattle.meaning.specs.Rules.{Bytes}
@@ -30,13 +30,13 @@ module _ (text : Bytes) where
   opening-one x y (opens o h) (opens p k) = ap (λ (r : ReportRead). on (record { word = r .word; line = r .facts; next = r .next })) (reported-unique text h k)
 
   pub closing-one : {A : Type 0} (a : A) (at : ℕ) → One (Closing a text at)
-  closing-one a at x y (closes h) (closes k) = refl
-  closing-one a at x y (closes h) (stray l k) = absurd (let e = out-of-place-unique text at h k in let z : _≡_ {A = ℕ} 0 1 = cc in omega arith)
-  closing-one a at x y (stray l h) (closes k) = absurd (let e = out-of-place-unique text at h k in let z : _≡_ {A = ℕ} 0 1 = cc in omega arith)
+  closing-one a at x y (closes e h) (closes f k) = refl
+  closing-one a at x y (closes f h) (stray l k) = absurd (let e = out-of-place-unique text at h k in let z : _≡_ {A = ℕ} 0 1 = cc in omega arith)
+  closing-one a at x y (stray l h) (closes f k) = absurd (let e = out-of-place-unique text at h k in let z : _≡_ {A = ℕ} 0 1 = cc in omega arith)
   closing-one a at x y (stray l h) (stray m k) = let e = out-of-place-unique text at h k in let z : l ≡ m = cc in ap (λ (p : Place). stop 2 (in-text output p)) z
 
   pub facts-one : (line : Place) → One (Facts text line)
-  facts-one line = reads-one (language true) (λ p. in-text output (on-line line p)) (end-of (part text line)) (placed-from true (part text line) 0) (one-reading true (end-of (part text line)) (placed-from true (part text line) 0))
+  facts-one line = reads-one (language true) (λ p. in-text output (on-line text line p)) (end-of (part text line)) (placed-from true (part text line) 0) (one-reading true (end-of (part text line)) (placed-from true (part text line) 0))
 
   pub behind-one : (word : Word) (line : Place) (next : ℕ) → One (Behind text word line next)
   behind-one Answer line next = then-one (Facts text line) (λ fs. Closing (facts line fs) text next) (facts-one line) (λ fs. closing-one (facts line fs) next)
@@ -44,7 +44,7 @@ module _ (text : Bytes) where
   behind-one Unknown line next = closing-one claim-unknown next
 
   abbrev behind : Opened → Stage Report
-  behind o = Behind text (o .word) (o .line) (o .next)
+  behind o = Behind text (o .word) (o .line) (o .next .start)
 
   pub output-one : One (OutputStage text)
   output-one =
@@ -52,7 +52,7 @@ module _ (text : Bytes) where
       (Refuse 1 (start-of output) (most-text < length text))
       (λ u. Then (Opening text) behind)
       (refuse-one 1 (start-of output) (most-text < length text))
-      (λ u. then-one (Opening text) behind opening-one (λ o. behind-one (o .word) (o .line) (o .next)))
+      (λ u. then-one (Opening text) behind opening-one (λ o. behind-one (o .word) (o .line) (o .next .start)))
 
   pub reads-output-unique : (r s : OutputRead) → ReadsOutput text r → ReadsOutput text s → r ≡ s
   reads-output-unique r s g h = g .so ∙ ap fields (output-one (g .outcome) (h .outcome) (g .stage) (h .stage)) ∙ inv (h .so)

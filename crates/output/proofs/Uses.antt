@@ -1,10 +1,13 @@
 -- What a caller makes of an output that has been read.
-use mathlib.Core.Path.{_≡_, refl, ap, _∙_}
+use mathlib.Core.Path.{_≡_, refl, ap, _∙_, subst}
 use mathlib.Core.Bool.{true}
 use Prim.Native.Nat.{ℕ, _+_, _≤_, _<_}
 use native.Mathlib.Omega.{arith}
 use lib.ListN.{length, length-take, length-drop}
-use Rattle.tokens.specs.declared.Place.{Place}
+use Rattle.tokens.proofs.Counting.{start-stands, from-stands}
+use Rattle.tokens.specs.Place.{Stands}
+use Rattle.output.proofs.Stages.{line-straight}
+use Rattle.tokens.specs.declared.place.Place.{Place}
 use Rattle.tokens.specs.Tokens.{part}
 use Rattle.tokens.specs.Sizes.{most-text}
 use Rattle.reading.specs.Reading.{tree}
@@ -24,20 +27,21 @@ use Rattle.report.proofs.Reporting.{first-line}
 use Rattle.stages.specs.Parts.{output, Part, in-text, start-of}
 use Rattle.stages.specs.Stage.{Outcome, on, stop, Refuse, stops, goes, given, passed, read, fault}
 use Rattle.output.specs.declared.OutputRead.{OutputRead}
-use Rattle.output.specs.Output.{Report, facts, claim-none, claim-unknown, Opened, Opening, refuses, opens, Facts, Closing, closes, stray, Behind, OutputStage}
+use Rattle.output.specs.Output.{Report, facts, claim-none, claim-unknown, Opened, Opening, refuses, opens, Facts, Closing, closes, stray, Behind, OutputStage, OneLine}
 use Rattle.output.specs.Answers.{fields, ReadsOutput}
 use Rattle.output.specs.Tables.{OutputTables, FactsHeld, FillsOutput}
 
--- ---- a refusal: its number is one, and its part is a part of the output
+-- ---- a refusal: its number is one, and its part is a part of the output, with the line and column of its start
 
 pub record Refusal (text : Bytes) (n : ℕ) (p : Part) : Type 0 where
   pub number : 1 ≤ n
   pub within : p ≡ in-text output (p .place)
   pub inside : p .place .start + p .place .len ≤ length text
+  pub stands : Stands text (p .place)
 
 module _ (text : Bytes) where
   closing-refusal : {A : Type 0} (a : A) (at : ℕ) {n : ℕ} {p : Part} → Closing a text at (stop n p) → Refusal text n p
-  closing-refusal a at (stray line o) = record { number = omega arith; within = refl; inside = first-line text at o line refl .1 }
+  closing-refusal a at (stray line o) = record { number = omega arith; within = refl; inside = first-line text at o line refl .inside; stands = first-line text at o line refl .line .stands }
 
   module _ (line : Place) (inside : line .start + line .len ≤ length text) where
     line-length : length (part text line) ≡ line .len
@@ -49,6 +53,7 @@ module _ (text : Bytes) where
           number = refused-number true (part text line) n q h;
           within = refl;
           inside = omega (arith, refused-inside true (part text line) n q h, line-length);
+          stands = from-stands text (line .start + q .start) (q .len) (omega (arith, refused-inside true (part text line) n q h, line-length));
         }
 
     behind-refusal : (word : Word) (next : ℕ) {n : ℕ} {p : Part} → Behind text word line next (stop n p) → Refusal text n p
@@ -58,31 +63,35 @@ module _ (text : Bytes) where
     behind-refusal Unknown next h = closing-refusal claim-unknown next h
 
   opening-refusal : {n : ℕ} {p : Part} → Opening text (stop n p) → Refusal text n p
-  opening-refusal (refuses place h) = record { number = omega arith; within = refl; inside = reported-inside text h .place }
+  opening-refusal (refuses place h) = record { number = omega arith; within = refl; inside = reported-inside text h .place; stands = reported-inside text h .place-stands }
 
   size-refusal : {n : ℕ} {p : Part} → Refuse 1 (start-of output) (most-text < length text) (stop n p) → Refusal text n p
-  size-refusal (given h) = record { number = omega arith; within = refl; inside = omega arith }
+  size-refusal (given h) = record { number = omega arith; within = refl; inside = omega arith; stands = start-stands text }
 
   facts-inside : {o : Opened} → Opening text (on o) → o .line .start + o .line .len ≤ length text
   facts-inside (opens o h) = let i = reported-inside text h in omega arith
 
+  facts-straight : {o : Opened} → Opening text (on o) → OneLine text (o .line)
+  facts-straight (opens o h) = line-straight text _ h
+
   pub refusal : {n : ℕ} {p : Part} → OutputStage text (stop n p) → Refusal text n p
   refusal (stops n p h) = size-refusal h
   refusal (goes u x s (stops n p h)) = opening-refusal h
-  refusal (goes u x s (goes o y h b)) = behind-refusal (o .line) (facts-inside h) (o .word) (o .next) b
+  refusal (goes u x s (goes o y h b)) = behind-refusal (o .line) (facts-inside h) (o .word) (o .next .start) b
 
   -- a fault of the facts line lies left of each line behind the report, so the first refusal of the stages is the leftmost
-  pub facts-before-behind : {o : Opened} → Opening text (on o) → {n : ℕ} {p : Part} → Facts text (o .line) (stop n p) → (l : Place) → OutOfPlace text (o .next) (Line l) → p .place .start + p .place .len ≤ l .start
+  pub facts-before-behind : {o : Opened} → Opening text (on o) → {n : ℕ} {p : Part} → Facts text (o .line) (stop n p) → (l : Place) → OutOfPlace text (o .next .start) (Line l) → p .place .start + p .place .len ≤ l .start
   facts-before-behind (opens o h) (fault n q r) l k =
       let i = reported-inside text h in
       let e = line-length (o .line) (facts-inside (opens o h)) in
-      omega (arith, refused-inside true (part text (o .line)) n q r, first-line text (o .next) k l refl .0, i .facts)
+      omega (arith, refused-inside true (part text (o .line)) n q r, first-line text (o .next .start) k l refl .further, i .facts)
 
 -- ---- ANSWER: the facts line lies inside the output and is read as the facts, which are not too many
 
 pub record HandedOn (text : Bytes) (line : Place) (fs : Program true) : Type 0 where
   pub size : length text ≤ most-text
   pub inside : line .start + line .len ≤ length text
+  pub straight : OneLine text line
   pub read : ReadAs true (part text line) (tree fs)
   pub few : count fs ≤ most-rules true
 
@@ -91,13 +100,13 @@ module _ (text : Bytes) where
   facts-on line (read fs h) = h
 
   behind-on : (word : Word) (l : Place) (next : ℕ) {line : Place} {fs : Program true} → Behind text word l next (on (facts line fs)) → (l ≡ line) × ReadAs true (part text line) (tree fs)
-  behind-on Answer l next (goes fs x h (closes k)) = (refl, facts-on l h)
+  behind-on Answer l next (goes fs x h (closes end k)) = (refl, facts-on l h)
 
   pub handed-on : {line : Place} {fs : Program true} → OutputStage text (on (facts line fs)) → HandedOn text line fs
   handed-on {line} {fs} (goes u x (passed s) (goes o y h b)) =
-      let k = behind-on (o .word) (o .line) (o .next) b in
+      let k = behind-on (o .word) (o .line) (o .next .start) b in
       let i = facts-inside text h in
-      record { size = omega arith; inside = rw (k .0) at i; read = k .1; few = read-few true (end-of (part text line)) (placed-from true (part text line) 0) (k .1) }
+      record { size = omega arith; inside = rw (k .0) at i; straight = subst (OneLine text) (k .0) (facts-straight text h); read = k .1; few = read-few true (end-of (part text line)) (placed-from true (part text line) 0) (k .1) }
 
 -- ---- the fields of an answer, and the outcome
 
@@ -127,18 +136,19 @@ module _ (text : Bytes) (r : OutputRead) (g : ReadsOutput text r) where
       go (on claim-unknown) s e = rw e s
       go (stop m p) s e = absurd (let k = refusal text s .number in let q : r .code ≡ m = ap (λ (x : OutputRead). x .code) e in omega arith)
 
--- ANSWER: the facts of its line, which the tables hold
-pub record Answering (program text : Bytes) (n : ℕ) (t u : OutputTables) : Type 0 where
+-- ANSWER: the facts of its line, which the tables hold, and where that line stands
+pub record Answering (program text : Bytes) (place : Place) (n : ℕ) (t u : OutputTables) : Type 0 where
   pub line : Place
   pub tree-of : Program true
   pub stage : OutputStage text (on (facts line tree-of))
+  pub line-is : place ≡ line
   pub held : FactsHeld program text line tree-of t n u
 
-pub output-answers : (program text : Bytes) (t : OutputTables) (r : OutputRead) (u : OutputTables) → FillsOutput program text t r u → r .code ≡ 0 → r .word ≡ Answer → Answering program text (r .count) t u
+pub output-answers : (program text : Bytes) (t : OutputTables) (r : OutputRead) (u : OutputTables) → FillsOutput program text t r u → r .code ≡ 0 → r .word ≡ Answer → Answering program text (r .line) (r .count) t u
 output-answers program text t r u g z w = go (g .given .outcome) refl
   where
-    go : (o : Outcome Report) → g .given .outcome ≡ o → Answering program text (r .count) t u
-    go (on (facts line fs)) e = record { line = line; tree-of = fs; stage = rw e at (g .given .stage); held = g .filled line fs e }
+    go : (o : Outcome Report) → g .given .outcome ≡ o → Answering program text (r .line) (r .count) t u
+    go (on (facts line fs)) e = record { line = line; tree-of = fs; stage = rw e at (g .given .stage); line-is = ap (λ (x : OutputRead). x .line) (g .given .so ∙ ap fields e); held = g .filled line fs e }
     go (on claim-none) e = absurd (let q : r .word ≡ Inconsistent = ap (λ (x : OutputRead). x .word) (g .given .so ∙ ap fields e) in let y : _≡_ {A = ℕ} 0 1 = cc in omega arith)
     go (on claim-unknown) e = absurd (let q : r .word ≡ Unknown = ap (λ (x : OutputRead). x .word) (g .given .so ∙ ap fields e) in let y : _≡_ {A = ℕ} 0 1 = cc in omega arith)
     go (stop m p) e = absurd (let k = refusal text (rw e at (g .given .stage)) .number in let q : r .code ≡ m = ap (λ (x : OutputRead). x .code) (g .given .so ∙ ap fields e) in omega arith)

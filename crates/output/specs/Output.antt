@@ -1,12 +1,13 @@
 -- What an output is read as, stage by stage: 1; then 2, 3 and 4 from the left, as the lines of the output stand.
 use mathlib.Core.Bool.{true}
 use mathlib.Core.List.{List}
-use Prim.Native.Nat.{ℕ, _+_, _<_}
-use lib.ListN.{length}
-use Rattle.tokens.specs.declared.Place.{Place}
+use Prim.Native.Nat.{ℕ, _+_, _≤_, _<_}
+use lib.ListN.{length, drop}
+use Rattle.tokens.specs.declared.place.Place.{Place}
 use Rattle.tokens.specs.Tokens.{part}
 use Rattle.tokens.specs.Sizes.{most-text}
-use Rattle.tokens.specs.Places.{place-from}
+use Rattle.tokens.specs.Run.{inLine, prefixLen}
+use Rattle.tokens.specs.Place.{place-from, Stands}
 use Rattle.meaning.specs.Values.{Value}
 use Rattle.meaning.specs.Rules.{Bytes, Fact}
 use Rattle.grammar.specs.Trees.{Program}
@@ -15,7 +16,7 @@ use Rattle.grammar.specs.Abstraction.{facts-for}
 use Rattle.syntax.specs.Text.{placed-from, end-of}
 use Rattle.report.specs.declared.word.Word.{Word}
 use Rattle.report.specs.declared.word.Word.the-variants.{Answer, Inconsistent, Unknown}
-use Rattle.report.specs.declared.around.Found.the-variants.{Nothing, Line}
+use Rattle.report.specs.declared.around.Found.the-variants.{End, Line}
 use Rattle.report.specs.Around.{OutOfPlace}
 use Rattle.report.specs.Report.{refused, found, Reported}
 use Rattle.stages.specs.Parts.{output, in-text, start-of}
@@ -36,7 +37,7 @@ candidate fs = facts-for fs
 pub record Opened : Type 0 where
   pub word : Word
   pub line : Place
-  pub next : ℕ
+  pub next : Place
 
 pub data Opening (text : Bytes) : Outcome Opened → Type 0 where
   refuses : (place : Place) → Reported text (refused place) → Opening text (stop 2 (in-text output place))
@@ -45,16 +46,21 @@ pub data Opening (text : Bytes) : Outcome Opened → Type 0 where
 -- ---- the facts line: 2, 3 and 4
 
 -- a place on a line, as a place of the text that has the line
-abbrev pub on-line : Place → Place → Place
-on-line line p = place-from (line .start + p .start) (p .len)
+abbrev pub on-line : Bytes → Place → Place → Place
+on-line text line p = place-from text (line .start + p .start) (p .len)
 
 abbrev pub Facts : Bytes → Place → Stage (Program true)
-Facts text line = let bytes = part text line in Reads (language true) (λ p. in-text output (on-line line p)) (end-of bytes) (placed-from true bytes 0)
+Facts text line = let bytes = part text line in Reads (language true) (λ p. in-text output (on-line text line p)) (end-of bytes) (placed-from true bytes 0)
+
+-- the line has the line and column of its start, and no newline
+pub record OneLine (text : Bytes) (line : Place) : Type 0 where
+  pub stands : Stands text line
+  pub unbroken : line .len ≤ prefixLen inLine (drop (line .start) text)
 
 -- ---- the lines behind the report, from a place on: 2 at the first that may not stand there
 
 pub data Closing {A : Type 0} (a : A) (text : Bytes) (at : ℕ) : Outcome A → Type 0 where
-  closes : OutOfPlace text at Nothing → Closing a text at (on a)
+  closes : (end : Place) → OutOfPlace text at (End end) → Closing a text at (on a)
   stray : (line : Place) → OutOfPlace text at (Line line) → Closing a text at (stop 2 (in-text output line))
 
 -- ---- the whole
@@ -68,4 +74,4 @@ abbrev pub OutputStage : Bytes → Stage Report
 OutputStage text =
     Refuse 1 (start-of output) (most-text < length text) ⟫ λ u.
     Opening text ⟫ λ o.
-    Behind text (o .word) (o .line) (o .next)
+    Behind text (o .word) (o .line) (o .next .start)

@@ -1,9 +1,8 @@
 // The solver's output as a whole: its report, the facts line behind ANSWER, and the lines behind the report.
 ghost use mathlib.Core.Path.{_≡_};
-ghost use Prim.Native.Nat.{_+_, _≤_};
-ghost use Rattle.tokens.specs.Sizes.{most-text};
-ghost use Rattle.output.specs.Output.{on-line};
-ghost use Rattle.output.specs.Answers.{refused, reported, line-fields, Closes};
+ghost use Prim.Native.Nat.{_+_};
+ghost use Rattle.tokens.specs.Place.{Stands, Countable};
+ghost use Rattle.output.specs.Answers.{refused, reported, counted-on, line-fields, Closes};
 ghost use Rattle.output.specs.Tables.{tables, Lent, FillsOutput};
 use factline::line::FactsRead;
 use factline::line::put_predicates;
@@ -12,9 +11,10 @@ use report::around::Found;
 use report::around::out_of_place;
 use report::find_report;
 use report::word::Word;
-use tokens::NOWHERE;
-use tokens::Place;
-use tokens::place_from;
+use tokens::place::Place;
+use tokens::place::TEXT_START;
+use tokens::place::along;
+use tokens::place::with_len;
 use tokens::sizes::MOST_TEXT;
 
 // The refusal of an output that has more.
@@ -24,11 +24,12 @@ const TOO_LONG: u8 = 1;
 const OUT_OF_PLACE: u8 = 2;
 
 // What an output says. A refusal has its code and its place; else the code is 0, the place is empty, and the other fields hold
-// the report's word, and with ANSWER the number of the facts on its line.
+// the report's word, and with ANSWER the line of the facts and their number.
 pub struct OutputRead {
     pub code: u8,
     pub place: Place,
     pub word: Word,
+    pub line: Place,
     pub count: usize,
 }
 
@@ -39,52 +40,55 @@ fn refused(code: u8, place: Place) -> OutputRead
         code,
         place,
         word: Word::Unknown,
+        line: TEXT_START,
         count: 0,
     }
 }
 
-fn reported(word: Word, count: usize) -> OutputRead
-    ensures { λ r. ⌜ r ≡ reported word count ⌝ }
+fn reported(word: Word, line: Place, count: usize) -> OutputRead
+    ensures { λ r. ⌜ r ≡ reported word line count ⌝ }
 {
     OutputRead {
         code: 0,
-        place: NOWHERE,
+        place: TEXT_START,
         word,
+        line,
         count,
     }
 }
 
 // A place on a line, as a place of the output.
 fn on_line(line: Place, place: Place) -> Place
-    requires { ⌜ line .start + place .start ≤ most-text ⌝ }
-    ensures { λ r. ⌜ r ≡ on-line line place ⌝ }
+    requires { ⌜ Countable line (line .start + place .start) ⌝ }
+    ensures { λ r. ⌜ r ≡ counted-on line place ⌝ }
 {
-    place_from(line.start + place.start, place.len)
+    with_len(along(line, line.start + place.start), place.len)
 }
 
 // What a facts line says: its refusal, at its place in the output, or ANSWER and the number of its facts.
 fn of_line(line: Place, read: FactsRead) -> OutputRead
-    requires { ⌜ line .start + read .place .start ≤ most-text ⌝ }
+    requires { ⌜ Countable line (line .start + read .place .start) ⌝ }
     ensures { λ r. ⌜ r ≡ line-fields line read ⌝ }
 {
     if read.code != 0 {
         let place = read.place;
         return refused(read.code, on_line(line, place));
     }
-    reported(Word::Answer, read.count)
+    reported(Word::Answer, line, read.count)
 }
 
 // What has been said before the lines from `at` on. Where that is no refusal, the first of them that may not stand behind the report is
 // refused.
-fn closed(output: &[u8], at: usize, said: OutputRead) -> OutputRead
-    ensures { λ r. ⌜ Closes (now (output .entry)) at said r ⌝ }
+fn closed(output: &[u8], at: Place, said: OutputRead) -> OutputRead
+    requires { ⌜ Stands (now output) at ⌝ }
+    ensures { λ r. ⌜ Closes (now (output .entry)) (at .start) said r ⌝ }
 {
     if said.code != 0 {
         return said;
     }
     let found = out_of_place(output, at);
     match found {
-        Found::Nothing => said,
+        Found::End(_) => said,
         Found::Line(line) => refused(OUT_OF_PLACE, line),
     }
 }
@@ -104,7 +108,7 @@ pub fn read_output<'a>(
     ensures { λ r. ⌜ FillsOutput (now (program .entry)) (now (output .entry)) (tables (now (names .entry)) (now (facts .entry)) (now (predicates .entry)) (now (starts .entry)) (now (lengths .entry))) r (tables (now (names .exit)) (now (facts .exit)) (now (predicates .exit)) (now (starts .exit)) (now (lengths .exit))) ⌝ }
 {
     if MOST_TEXT < output.len() {
-        return refused(TOO_LONG, NOWHERE);
+        return refused(TOO_LONG, TEXT_START);
     }
     let report = find_report(output);
     if report.code != 0 {
@@ -120,7 +124,7 @@ pub fn read_output<'a>(
             put_predicates(&*facts, predicates, read.count);
             closed(output, next, of_line(line, read))
         }
-        Word::Inconsistent => closed(output, next, reported(Word::Inconsistent, 0)),
-        Word::Unknown => closed(output, next, reported(Word::Unknown, 0)),
+        Word::Inconsistent => closed(output, next, reported(Word::Inconsistent, TEXT_START, 0)),
+        Word::Unknown => closed(output, next, reported(Word::Unknown, TEXT_START, 0)),
     }
 }

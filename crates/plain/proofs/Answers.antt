@@ -10,7 +10,7 @@ use lib.Seq.{sets, sets-eq, drop-length, length-take-le}
 use Rattle.meaning.specs.Rules.{Bytes}
 use Rattle.meaning.proofs.Sets.{nothing-long}
 use Rattle.grammar.specs.Trees.{Program}
-use Rattle.tokens.specs.Places.{nowhere}
+use Rattle.tokens.specs.Place.{text-start}
 use Rattle.plainform.specs.PlainBytes.{ReadAs, plain-bytes}
 use Rattle.plainform.proofs.Theorems.{plain-no-longer}
 use Rattle.plaintokens.specs.Put.{Put}
@@ -24,7 +24,7 @@ laid-whole part bytes e =
     rw (z, drop-length part, append-nil bytes) at (sets-eq bytes part 0 (omega arith))
 
 -- one pass, on a buffer that is as long as the text: the plain form is no longer
-pub at-once : (text : Bytes) (c : Program false) → ReadAs text c → (buffer : Bytes) {n : ℕ} {left : Bytes} → length text ≤ length buffer → Put buffer 0 (plain-bytes c) n left → WritesProgram c buffer (answer 0 nowhere n) left
+pub at-once : (text : Bytes) (c : Program false) → ReadAs text c → (buffer : Bytes) {n : ℕ} {left : Bytes} → length text ≤ length buffer → Put buffer 0 (plain-bytes c) n left → WritesProgram c buffer (answer 0 text-start n) left
 at-once text c r buffer h p =
     let f : length (plain-bytes c) ≤ length buffer = omega (arith, plain-no-longer text c r) in
     rw (p .laid, p .next, sets-eq (plain-bytes c) buffer 0 (omega arith), zero-add (length (plain-bytes c))) (writes f)
@@ -34,11 +34,11 @@ module _ (c : Program false) (buffer : Bytes) {n : ℕ} {part : Bytes} (p : Put 
   untouched : part ++ buffer ≡ buffer
   untouched = rw (nothing-long part (put-length p))
 
-  pub too-short : length (part ++ buffer) < n → WritesProgram c buffer (answer 9 nowhere 0) (part ++ buffer)
+  pub too-short : length (part ++ buffer) < n → WritesProgram c buffer (answer 9 text-start 0) (part ++ buffer)
   too-short h = let e = ap length untouched in rw untouched (short (omega (arith, p .next)))
 
   -- the second, on a part of that length, fills it
-  pub long-enough : {k : ℕ} {first : Bytes} → n ≤ length (part ++ buffer) → Put (take (n - 0) (part ++ buffer)) 0 (plain-bytes c) k first → WritesProgram c buffer (answer 0 nowhere n) (first ++ drop (n - 0) (part ++ buffer))
+  pub long-enough : {k : ℕ} {first : Bytes} → n ≤ length (part ++ buffer) → Put (take (n - 0) (part ++ buffer)) 0 (plain-bytes c) k first → WritesProgram c buffer (answer 0 text-start n) (first ++ drop (n - 0) (part ++ buffer))
   long-enough {k} {first} h q =
       let e = ap length untouched in
       let s : n ≡ length (plain-bytes c) = omega (arith, p .next) in

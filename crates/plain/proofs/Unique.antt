@@ -9,7 +9,7 @@ use Rattle.stages.specs.Stage.{on, stop}
 use Rattle.stages.proofs.Unique.{on-stop, on-inj}
 use Rattle.program.proofs.Unique.{program-one}
 use Rattle.plainform.specs.PlainBytes.{plain-bytes}
-use Rattle.tokens.specs.Places.{nowhere}
+use Rattle.tokens.specs.Place.{text-start}
 use Rattle.plain.specs.declared.Written.{Written}
 use Rattle.plain.specs.Answer.{answer, filled, WritesProgram, short, writes, Writes, refuses, takes}
 
@@ -17,7 +17,7 @@ pub program-unique : (c d : Program false) → c ≡ d → (buffer : Bytes) (a b
 program-unique c d e buffer a b l m (short g) (short h) = (refl, refl)
 program-unique c d e buffer a b l m (short g) (writes h) = absurd (omega (arith, ap (λ (x : Program false). length (plain-bytes x)) e))
 program-unique c d e buffer a b l m (writes g) (short h) = absurd (omega (arith, ap (λ (x : Program false). length (plain-bytes x)) e))
-program-unique c d e buffer a b l m (writes g) (writes h) = (ap (λ (x : Program false). answer 0 nowhere (length (plain-bytes x))) e, ap (filled buffer) e)
+program-unique c d e buffer a b l m (writes g) (writes h) = (ap (λ (x : Program false). answer 0 text-start (length (plain-bytes x))) e, ap (filled buffer) e)
 
 pub written-unique : (text buffer : Bytes) (a b : Written) (l m : Bytes) → Writes text buffer a l → Writes text buffer b m → (a ≡ b) × (l ≡ m)
 written-unique text buffer a b l m (refuses n p r) (refuses k q s) =

@@ -3,10 +3,10 @@ use mathlib.Core.Bool.{false}
 use mathlib.Core.List.{_++_}
 use Prim.Native.Nat.{ℕ, _≤_, _<_}
 use lib.ListN.{length, drop}
-use Rattle.tokens.specs.declared.Place.{Place}
+use Rattle.tokens.specs.declared.place.Place.{Place}
 use Rattle.meaning.specs.Rules.{Bytes}
 use Rattle.grammar.specs.Trees.{Program}
-use Rattle.tokens.specs.Places.{nowhere}
+use Rattle.tokens.specs.Place.{text-start}
 use Rattle.stages.specs.Parts.{Part}
 use Rattle.stages.specs.Stage.{on, stop}
 use Rattle.program.specs.Stage.{ProgramStage}
@@ -24,8 +24,8 @@ filled buffer c = plain-bytes c ++ drop (length (plain-bytes c)) buffer
 -- a text that is read as c: the writer's answer, and the buffer that it leaves
 pub data WritesProgram (c : Program false) (buffer : Bytes) : Written → Bytes → Type 0 where
   -- 9, empty at the program's start, exactly where the buffer is shorter than the plain form; every byte is as it was
-  short : length buffer < length (plain-bytes c) → WritesProgram c buffer (answer 9 nowhere 0) buffer
-  writes : length (plain-bytes c) ≤ length buffer → WritesProgram c buffer (answer 0 nowhere (length (plain-bytes c))) (filled buffer c)
+  short : length buffer < length (plain-bytes c) → WritesProgram c buffer (answer 9 text-start 0) buffer
+  writes : length (plain-bytes c) ≤ length buffer → WritesProgram c buffer (answer 0 text-start (length (plain-bytes c))) (filled buffer c)
 
 -- a text that is read
 abbrev pub AnswersPlain : (text buffer : Bytes) → Written → Bytes → Type 0

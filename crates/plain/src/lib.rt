@@ -10,8 +10,8 @@ use plaintokens::write_tokens;
 use program::read_program;
 use program::space::literal_table;
 use program::space::rule_table;
-use tokens::NOWHERE;
-use tokens::Place;
+use tokens::place::Place;
+use tokens::place::TEXT_START;
 
 // The writer's answer: the number of a refusal and its part of the program; or 0, and the length of the plain form.
 pub struct Written {
@@ -33,7 +33,7 @@ fn write_read(program: &[u8], buffer: &mut [u8]) -> Written
         let length = write_tokens(buffer, program);
         return Written {
             code: 0,
-            place: NOWHERE,
+            place: TEXT_START,
             length,
         };
     }
@@ -41,14 +41,14 @@ fn write_read(program: &[u8], buffer: &mut [u8]) -> Written
     if buffer.len() < length {
         return Written {
             code: SHORT,
-            place: NOWHERE,
+            place: TEXT_START,
             length: 0,
         };
     }
     write_tokens(&mut buffer[0..length], program);
     Written {
         code: 0,
-        place: NOWHERE,
+        place: TEXT_START,
         length,
     }
 }

@@ -78,7 +78,7 @@ module _ (text : Bytes) where
   unfolding nextToken tokenAt gap
   none at e = tokens-end true text at (rw (e, add-zero at, e))
 
-  one : (at : ℕ) (kind : Kind) (b r : Bytes) → drop at text ≡ b ++ r → Spells kind b → First (λ c. kindOf (b ++ c ∷ []) ≡ Stray) r → tokensFrom true text at ≡ placed kind at (length b) ∷ tokensFrom true text (at + length b)
+  one : (at : ℕ) (kind : Kind) (b r : Bytes) → drop at text ≡ b ++ r → Spells kind b → First (λ c. kindOf (b ++ c ∷ []) ≡ Stray) r → tokensFrom true text at ≡ placed text kind at (length b) ∷ tokensFrom true text (at + length b)
   one at kind b r e s f =
       let n = next-here true text at kind (length b) (not-stray kind b s) (rw e (longest-before kind b r s f)) in
       tokens-more true text at (rw n (not-end kind b s)) ∙ rw n

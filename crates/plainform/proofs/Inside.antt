@@ -12,6 +12,7 @@ use lib.Seq.{length-take-le, drop-drop}
 use borrow.Author.Tests.{eqb-true, eqb-false}
 use Rattle.tokens.specs.declared.kind.Kind.{Kind}
 use Rattle.tokens.specs.declared.kind.Kind.the-variants.{Not, Name, Stray}
+use Rattle.tokens.specs.declared.place.Place.{Place}
 use Rattle.tokens.specs.declared.Token.{Token as TextToken}
 use Rattle.tokens.specs.declared.class.Class.the-variants.{Lower}
 use Rattle.tokens.specs.declared.run.Run.the-variants.{Word}
@@ -140,7 +141,7 @@ module _ (text : Bytes) where
   longest-here : (at : ℕ) (u : TextToken) → next at ≡ u → isEnd (u .kind) ≡ false → Longest (drop (u .place .start) text) (u .kind) (u .place .len)
   longest-here at u e r =
       let f = next-found true text at (rw e r) in
-      rw e at (rw (← (f .start)) at (f .longest))
+      rw e at (rw (← (ap (λ (p : Place). p .start) (f .place))) at (f .longest))
 
   apart-blank : (at : ℕ) (u v : TextToken) (vs : List TextToken) → Unrolls at u (v ∷ vs) → All NotStray (here (u ∷ v ∷ vs)) → (b : Bytes) → token-of (u .kind) (part text (u .place)) ≡ symbol not → token-of (v .kind) (part text (v .place)) ≡ name b → after u ≡ v .place .start → ⊥
   unfolding unplaced kind-for symbol-kind token-bytes symbol-bytes

@@ -1,7 +1,7 @@
 -- A program's tokens from a place on: the token that stands there, its kind and bytes, and what is written of it.
 use mathlib.Core.Path.{_≡_, refl, sym as inv, ap, _∙_}
 use mathlib.Core.Bool.{Bool, true, false, cond}
-use mathlib.Core.List.{List, [], _∷_}
+use mathlib.Core.List.{[], _∷_}
 use Prim.Native.Nat.{ℕ, _≤_}
 use native.Mathlib.Nat.{add-zero}
 use native.Mathlib.Omega.{arith}
@@ -23,7 +23,7 @@ use Rattle.grammar.specs.PlainForm.{plain-sign}
 use Rattle.grammar.specs.Moves.{token-number, sign-number}
 use Rattle.grammar.specs.Writing.{comparison-bytes, sign-bytes, token-bytes}
 use Rattle.syntax.specs.declared.token.TokenRead.{TokenRead}
-use Rattle.syntax.specs.Text.{token-of, tokenRead}
+use Rattle.syntax.specs.Text.{token-of, tokenRead, next-of}
 use Rattle.syntax.proofs.Tokens.{token-by, part-length, number-here, placed-more, placed-end, end-here, spelled-here}
 use Rattle.plainform.proofs.Proper.{token-says}
 use Rattle.plaintokens.specs.PlainTokens.{plain-token, first-kind, first-byte}
@@ -60,7 +60,7 @@ module _ (text : Bytes) (at : ℕ) (t : TokenRead) (et : t ≡ tokenRead false t
   abbrev here : Token
   here = token-by (t .kind) (part text (t .place))
 
-  pub more : (t .kind ≡ 20 → ⊥) → tokens-from text at ≡ here ∷ tokens-from text (t .next)
+  pub more : (t .kind ≡ 20 → ⊥) → tokens-from text at ≡ here ∷ tokens-from text (next-of t)
   unfolding unplaced
   more n = ap unplaced (placed-more false text at t et n)
 

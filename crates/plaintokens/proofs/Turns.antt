@@ -13,7 +13,7 @@ use Rattle.grammar.specs.PlainForm.{plain-sign}
 use Rattle.grammar.specs.Moves.{token-number, sign-number, comparison-number}
 use Rattle.grammar.specs.Writing.{token-bytes}
 use Rattle.syntax.specs.declared.token.TokenRead.{TokenRead}
-use Rattle.syntax.specs.Text.{tokenRead}
+use Rattle.syntax.specs.Text.{tokenRead, next-of}
 use Rattle.syntax.proofs.Tokens.{token-by, within, number-here}
 use Rattle.plaintokens.specs.Put.{Room, Put}
 use Rattle.plaintokens.specs.Neighbours.{left-out, blank-between}
@@ -75,28 +75,27 @@ module _ {text buffer left : Bytes} {before last next : ℕ} {t : TokenRead} (g 
   all-written e = rw (g .whole, none-left text (g .at) t (g .here) e, append-nil (g .done)) (g .put)
 
   -- the text gets shorter
-  pub turn-less : (t .kind ≡ 20 → ⊥) → (behind : TokenRead) → behind ≡ tokenRead false text (t .next) → length text - behind .place .start < length text - t .place .start
+  pub turn-less : (t .kind ≡ 20 → ⊥) → (behind : TokenRead) → behind ≡ tokenRead false text (next-of t) → length text - behind .place .start < length text - t .place .start
   turn-less n behind eb =
-      let w : t .next ≤ length text = within false text (g .at) t (g .here) in
+      let w : next-of t ≤ length text = within false text (g .at) t (g .here) in
       let b = some-bytes text (g .at) t (g .here) n in
-      let e : t .next ≡ t .place .start + t .place .len = rw (g .here) in
-      let f : t .next ≤ behind .place .start = rw eb (forward true text (t .next) w) in
+      let f : next-of t ≤ behind .place .start = rw eb (forward true text (next-of t) w) in
       omega arith
 
-  module _ (n : t .kind ≡ 20 → ⊥) (behind : TokenRead) (eb : behind ≡ tokenRead false text (t .next)) (first : ℕ) (ef : first ≡ getD text (behind .place .start) 0) (out : Bool) (eo : out ≡ left-out before (t .kind) (behind .kind) first) where
+  module _ (n : t .kind ≡ 20 → ⊥) (behind : TokenRead) (eb : behind ≡ tokenRead false text (next-of t)) (first : ℕ) (ef : first ≡ getD text (behind .place .start) 0) (out : Bool) (eo : out ≡ left-out before (t .kind) (behind .kind) first) where
     abbrev bytes : Bytes
     bytes = unless out (blank-between last (t .kind) ++ spelled text t)
 
-    turn : still before last (tokens-from text (g .at)) ≡ bytes ++ still (t .kind) (cond out last (t .kind)) (tokens-from text (t .next))
+    turn : still before last (tokens-from text (g .at)) ≡ bytes ++ still (t .kind) (cond out last (t .kind)) (tokens-from text (next-of t))
     turn =
         let h = token-by (t .kind) (part text (t .place)) in
-        let ts = tokens-from text (t .next) in
+        let ts = tokens-from text (next-of t) in
         let k : token-number h ≡ t .kind = number-here false text (g .at) t (g .here) n in
-        let e : out ≡ left-out before (token-number h) (first-kind ts) (first-byte ts) = rw (k, kind-first text (t .next) behind eb, byte-first text (t .next) behind eb, ← ef) eo in
+        let e : out ≡ left-out before (token-number h) (first-kind ts) (first-byte ts) = rw (k, kind-first text (next-of t) behind eb, byte-first text (next-of t) behind eb, ← ef) eo in
         rw (more text (g .at) t (g .here) n) (still-on before last h ts out e ∙ rw (k, written-here text (g .at) t (g .here) n))
 
     pub turn-room : Room 0 (plain-text text) → Room next bytes
     turn-room h = let e = simp length-append at (ap length (g .whole ∙ ap (λ (b : Bytes). g .done ++ b) turn)) in omega (arith, g .put .next)
 
     pub turn-on : {k : ℕ} {m : Bytes} → Put left next bytes k m → (l : ℕ) → l ≡ cond out last (t .kind) → SoFar text buffer (t .kind) l k behind m
-    turn-on p l el = record { at = t .next; here = eb; done = g .done ++ bytes; put = put-then (g .put) p; whole = rw el (g .whole ∙ rw turn (inv (append-assoc (g .done) bytes _))) }
+    turn-on p l el = record { at = next-of t; here = eb; done = g .done ++ bytes; put = put-then (g .put) p; whole = rw el (g .whole ∙ rw turn (inv (append-assoc (g .done) bytes _))) }

@@ -16,6 +16,8 @@ use tokens::kind::ALSO_UNEQUAL;
 use tokens::kind::DOT;
 use tokens::kind::END;
 use tokens::parts::part;
+use tokens::place::TEXT_START;
+use tokens::place::past;
 use tokens::run::byte_at;
 
 mod neighbours;
@@ -81,9 +83,9 @@ pub fn write_tokens(buffer: &mut [u8], text: &[u8]) -> usize
     let mut before = DOT;
     let mut last = DOT;
     let mut next = 0;
-    let mut token = token_at(text, 0, false);
+    let mut token = token_at(text, TEXT_START, false);
     while token.kind != END {
-        let behind = token_at(text, token.next, false);
+        let behind = token_at(text, past(token.place), false);
         let start = behind.place.start;
         let out = left_out(before, token.kind, behind.kind, byte_at(text, start));
         next = put_token(buffer, next, text, last, token, out);

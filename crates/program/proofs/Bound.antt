@@ -3,13 +3,13 @@
 use mathlib.Core.Path.{_≡_, refl, sym as inv, ap, _∙_}
 use mathlib.Core.Bool.{Bool, true, false, cond}
 use mathlib.Core.List.{List, [], _∷_, _++_, append-nil, append-assoc}
-use Prim.Native.Nat.{ℕ, suc, _+_, _≤_, _<_}
+use Prim.Native.Nat.{ℕ, suc, _+_, _≤_}
 use native.Mathlib.Omega.{arith}
 use native.Mathlib.Numerals.{add-one}
 use lib.ListN.{length, length-append}
 use Rattle.reading.specs.Reading.{tokens, unplaced, tree, Reading}
 use Rattle.reading.proofs.Lists.{tokens-append, unplaced-append}
-use Rattle.tokens.specs.Places.{nowhere}
+use Rattle.tokens.specs.Place.{text-start}
 use Rattle.tokens.specs.Sizes.{most-text}
 use Rattle.meaning.specs.Values.{Value}
 use Rattle.meaning.specs.Rules.{Bytes, Rule as MeantRule}
@@ -53,7 +53,7 @@ dot-length (t ∷ ts) (u ∷ front) rest e d = go (ends-rule u) refl d (dot-leng
     go false h k rec = rw (first, h) (ap suc (rec k))
 
 -- what is remembered where nothing was found
-no-earlier : (rules : List (MeantRule Value)) (ts : Tokens) (n : ℕ) → Remembered rules ts nowhere n no-unbound → (j m : ℕ) → Unbound rules ts j m → n ≤ j
+no-earlier : (rules : List (MeantRule Value)) (ts : Tokens) (n : ℕ) → Remembered rules ts text-start n no-unbound → (j m : ℕ) → Unbound rules ts j m → n ≤ j
 no-earlier rules ts n (first-case i x f e) = absurd (no-truth (ap (λ u. u .found) e))
   where
     no-truth : false ≡ true → ⊥
@@ -74,7 +74,7 @@ module _ (p : Program false) (r : Rule false) (rest : List Token) (ts : Tokens) 
   over-rule : ((j n : ℕ) → Unbound rules ts j n → length (tokens (spell p)) ≤ j) → (j n : ℕ) → Unbound rules ts j n → length (tokens (spell p)) + length (tokens (spell-rule (Mark.rule (suc (count p))) r)) ≤ j
   over-rule none j n x =
       let before : (i k : ℕ) → Unbound rules (s .before ++ s .ahead) i k → length (s .before) ≤ i = λ i k y. omega (arith, none i k (rw (s .whole) at y), passed-length) in
-      let kept = remember-on (rules-for p) more (rule-for r) (s .before) (s .ahead) (s .new) (s .ended) nowhere no-unbound no-unbound (no-case before refl) (λ h. refl) (λ h. all-bound (λ y l. b y (omega (arith, s .many))) refl) in
+      let kept = remember-on (rules-for p) more (rule-for r) (s .before) (s .ahead) (s .new) (s .ended) text-start no-unbound no-unbound (no-case before refl) (λ h. refl) (λ h. all-bound (λ y l. b y (omega (arith, s .many))) refl) in
       omega (arith, no-earlier rules (s .before ++ s .ahead) (length (s .before) + length (to-dot (s .ahead))) kept j n (rw (s .whole) x), passed-length, rule-length)
 
 -- no case stands at a token of these rules

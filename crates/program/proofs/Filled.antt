@@ -7,9 +7,13 @@ use native.Mathlib.Omega.{arith}
 use lib.Dec.{leb, ltb}
 use lib.ListN.{length}
 use lib.Seq.{take-length}
+use Rattle.terms.specs.Cursors.{variables-size}
+use Rattle.tokens.specs.declared.place.Place.{Place}
 use Rattle.tokens.specs.Sizes.{most-text}
 use borrow.Author.Tests.{leb-false, ltb-true, ltb-false, lt-ltb}
 use Rattle.reading.specs.Reading.{_▹_}
+use Rattle.tokens.specs.Place.{text-start, Stands as PlaceStands}
+use Rattle.tokens.proofs.Counting.{start-stands}
 use Rattle.meaning.specs.Sets.{every}
 use Rattle.meaning.specs.Rules.{Bytes}
 use Rattle.meaning.specs.Safety.{safe}
@@ -57,9 +61,9 @@ empty-fillable program output names rules literals fresh small long wide =
     }
 
 -- n rules have been stored, those of p, as far as a place of the program; their rows are as the engine asks where they are safe
-pub record Filled (program output : Bytes) (names₀ rules₀ literals₀ : List ℕ) (p : Program false) (at n : ℕ) (names rules literals : List ℕ) : Type 0 where
-  pub inside : at ≤ length program
-  pub grows : Grows program output names₀ at names
+pub record Filled (program output : Bytes) (names₀ rules₀ literals₀ : List ℕ) (p : Program false) (at : Place) (n : ℕ) (names rules literals : List ℕ) : Type 0 where
+  pub placed : PlaceStands program at
+  pub grows : Grows program output names₀ (at .start) names
   pub rules-kept : Kept 0 (n * rule-stride) rules₀ rules
   pub literals-kept : Kept 0 (n * rule-rows * literal-stride) literals₀ literals
   pub owned : (k : ℕ) → k < n → Owns rules k
@@ -67,11 +71,11 @@ pub record Filled (program output : Bytes) (names₀ rules₀ literals₀ : List
   pub stands : Pairwise (RelatedRule (CodedName (names-of program output names)) (Coded (names-of program output names))) (rules-of rules literals n) (rules-for p)
 
 module _ (program output : Bytes) (names₀ rules₀ literals₀ : List ℕ) (asked : Fillable program output names₀ rules₀ literals₀) (fits : length program ≤ most-text) where
-  pub filled-start : Filled program output names₀ rules₀ literals₀ empty 0 0 names₀ rules₀ literals₀
+  pub filled-start : Filled program output names₀ rules₀ literals₀ empty text-start 0 names₀ rules₀ literals₀
   unfolding from rules-for
   filled-start =
       record {
-        inside = omega arith;
+        placed = start-stands program;
         grows = grows-none program output names₀ 0 (asked .room fits .in-order);
         rules-kept = kept-self 0 0 rules₀;
         literals-kept = kept-self 0 0 literals₀;
@@ -80,14 +84,14 @@ module _ (program output : Bytes) (names₀ rules₀ literals₀ : List ℕ) (as
         stands = end;
       }
 
-  module _ (p : Program false) (at n : ℕ) (names rules literals : List ℕ) (g : Filled program output names₀ rules₀ literals₀ p at n names rules literals) where
+  module _ (p : Program false) (at : Place) (n : ℕ) (names rules literals : List ℕ) (g : Filled program output names₀ rules₀ literals₀ p at n names rules literals) where
     -- room for the rule with a number up to this one, if it is not one too many
-    pub filled-puttable : (variables : List ℕ) → 32 ≤ length variables → (k : ℕ) → k ≤ n → n ≤ 256 → Puttable program output names variables rules literals (record { at = at; number = k; over = leb 256 n })
+    pub filled-puttable : (variables : List ℕ) → variables-size ≤ length variables → (k : ℕ) → k ≤ n → n ≤ 256 → Puttable program output names variables rules literals (record { at = at; number = k; over = leb 256 n })
     filled-puttable variables wide k low few =
         record {
           ready =
               record {
-                ready = record { ready = record { source = at-start program output; short = fits; inside = g .inside; room = room-after program output (g .grows) (length program - at) (asked .room fits) (let i = g .inside in omega arith); few = omega arith; long = wide }; in-program = refl };
+                ready = record { ready = record { source = at-start program output; short = fits; stands = g .placed; room = room-after program output (g .grows) (length program - at .start) (asked .room fits) (let i = g .placed .inside in omega arith); few = omega arith; long = wide }; in-program = refl };
                 none-met = refl;
                 small = omega arith;
                 long = λ o. (let m = leb-false 256 n o in let a = g .literals-kept .long in let b = asked .literals-long in omega arith);
@@ -99,7 +103,7 @@ module _ (program output : Bytes) (names₀ rules₀ literals₀ : List ℕ) (as
     filled-whole size few safe-rules =
         record {
           count-is = sym size;
-          grows = grows-then program output (g .grows) (length program) (grows-none program output names 0 (g .grows .in-order)) (let i = g .inside in omega arith);
+          grows = grows-then program output (g .grows) (length program) (grows-none program output names 0 (g .grows .in-order)) (let i = g .placed .inside in omega arith);
           rules-kept = g .rules-kept;
           literals-kept = g .literals-kept;
           table = record { few = omega arith; rule = g .rows safe-rules };
@@ -110,12 +114,12 @@ module _ (program output : Bytes) (names₀ rules₀ literals₀ : List ℕ) (as
       agrees : (k : ℕ) → k < n → Agrees rules rules′ literals literals′ k
       agrees k h = later-agrees rules rules′ literals literals′ k n (s .rules-kept) (s .literals-kept) h
 
-      pub filled-on : Filled program output names₀ rules₀ literals₀ (p then x) (r .progress .next) (n + 1) names′ rules′ literals′
+      pub filled-on : Filled program output names₀ rules₀ literals₀ (p then x) (r .progress .place) (n + 1) names′ rules′ literals′
       unfolding rules-for
       filled-on =
           record {
-            inside = s .inside;
-            grows = grows-then program output (g .grows) (r .progress .next) (s .grows) (let f = s .forward in omega arith);
+            placed = s .placed;
+            grows = grows-then program output (g .grows) (r .progress .place .start) (s .grows) (let f = s .forward in omega arith);
             rules-kept = kept-then (kept-wider (g .rules-kept) 0 ((n + 1) * rule-stride) (omega arith) (omega arith)) (kept-wider (s .rules-kept) 0 ((n + 1) * rule-stride) (omega arith) (omega arith));
             literals-kept = kept-then (kept-wider (g .literals-kept) 0 ((n + 1) * rule-rows * literal-stride) (omega arith) (omega arith)) (kept-wider (s .literals-kept) 0 ((n + 1) * rule-rows * literal-stride) (omega arith) (omega arith));
             owned = λ k h. owned k h (ltb k n) refl;

@@ -10,3 +10,4 @@ pub mod Puts
 pub mod Growing
 pub mod Filled
 pub mod Loop
+pub mod Placed

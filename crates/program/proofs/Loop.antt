@@ -9,8 +9,9 @@ use native.Mathlib.Omega.{arith}
 use native.Mathlib.Numerals.{add-one}
 use lib.Dec.{leb, ltb}
 use lib.ListN.{length, length-append}
+use Rattle.terms.specs.Cursors.{variables-size}
 use borrow.Author.Tests.{leb-false, ltb-true, ltb-false}
-use Rattle.tokens.specs.declared.Place.{Place}
+use Rattle.tokens.specs.declared.place.Place.{Place}
 use Rattle.reading.specs.Reading.{unplaced, seen, tree, refused}
 use Rattle.reading.proofs.Lists.{unplaced-append, seen-append}
 use Rattle.meaning.specs.Sets.{every}
@@ -20,7 +21,7 @@ use Rattle.meaning.specs.Safety.{bound, safe}
 use Rattle.grammar.specs.Trees.{empty, _then_, count, Rule as Tree, Program}
 use Rattle.grammar.specs.Sizes.{too-many, programs}
 use Rattle.grammar.specs.Abstraction.{rule-for, rules-for}
-use Rattle.tokens.specs.Places.{nowhere}
+use Rattle.tokens.specs.Place.{text-start}
 use Rattle.tokens.specs.Sizes.{most-text}
 use Rattle.syntax.specs.Text.{placed-from, end-of}
 use Rattle.syntax.specs.Ahead.{firsts}
@@ -45,18 +46,18 @@ use Rattle.program.proofs.Remembered.{dots-append, Remembered, first-ca
 use Rattle.program.proofs.Safe.{read-is-safe}
 use Rattle.program.proofs.Filled.{Filled, filled-start, filled-puttable, filled-whole, filled-on}
 
-pub record Going (text output : Bytes) (names₀ rules₀ literals₀ : List ℕ) (u : Found) (at n : ℕ) (names variables rules literals : List ℕ) : Type 0 where
+pub record Going (text output : Bytes) (names₀ rules₀ literals₀ : List ℕ) (u : Found) (at : Place) (n : ℕ) (names variables rules literals : List ℕ) : Type 0 where
   pub few : n ≤ 256
   pub trees : Program false
   pub size : count trees ≡ n
-  pub walks : behind-rules false text empty 0 ≡ behind-rules false text trees at
+  pub walks : behind-rules false text empty 0 ≡ behind-rules false text trees (at .start)
   pub before : Tokens
-  pub whole : before ++ placed-from false text at ≡ tokens-of text
+  pub whole : before ++ placed-from false text (at .start) ≡ tokens-of text
   pub new : met-behind before ≡ []
   pub ended : dots before ≡ length (rules-for trees)
   pub remembered : (more : List (Rule Value)) → Remembered (rules-for trees ++ more) (tokens-of text) (end-of text) (length before) u
   pub names-long : length names ≡ length names₀
-  pub variables-long : length variables ≡ 32
+  pub variables-long : length variables ≡ variables-size
   pub filled : Filled text output names₀ rules₀ literals₀ trees at n names rules literals
 
 -- ---- the whole answer
@@ -74,7 +75,7 @@ in-size : (text : Bytes) → length text ≤ most-text → most-text < length te
 in-size text fits h = omega arith
 
 module _ {text output : Bytes} {names rules literals names′ rules′ literals′ : List ℕ} where
-  pub over-size : most-text < length text → {r : ProgramRead} → r ≡ refusal 1 nowhere → ReadsProgram text output names rules literals r names′ rules′ literals′
+  pub over-size : most-text < length text → {r : ProgramRead} → r ≡ refusal 1 text-start → ReadsProgram text output names rules literals r names′ rules′ literals′
   unfolding fields
   over-size h e = record { outcome = stop 1 (start-of program); reads = stops 1 _ (given h); so = e; filled = λ c k. absurd (on-stop (inv k)) }
 
@@ -112,11 +113,11 @@ module _ {text output : Bytes} {names rules literals names′ rules′ literals�
 -- ---- a turn of the loop
 
 module _ (text output : Bytes) (names₀ rules₀ literals₀ : List ℕ) (fits : length text ≤ most-text) (asked : Fillable text output names₀ rules₀ literals₀) where
-  pub going-start : (variables : List ℕ) → length variables ≡ 32 → Going text output names₀ rules₀ literals₀ no-unbound 0 0 names₀ variables rules₀ literals₀
+  pub going-start : (variables : List ℕ) → length variables ≡ variables-size → Going text output names₀ rules₀ literals₀ no-unbound text-start 0 names₀ variables rules₀ literals₀
   unfolding count rules-for dots seen unplaced
   going-start variables wide = record { few = omega arith; trees = empty; size = refl; walks = refl; before = []; whole = refl; new = refl; ended = refl; remembered = λ more. remembered-start more (tokens-of text) (end-of text); names-long = refl; variables-long = wide; filled = filled-start text output names₀ rules₀ literals₀ asked fits }
 
-  module _ (u : Found) (at n : ℕ) (names variables rules literals : List ℕ) (g : Going text output names₀ rules₀ literals₀ u at n names variables rules literals) where
+  module _ (u : Found) (at : Place) (n : ℕ) (names variables rules literals : List ℕ) (g : Going text output names₀ rules₀ literals₀ u at n names variables rules literals) where
     -- where the rule with the number k starts
     abbrev start : ℕ → RuleStart
     start k = record { at = at; number = k; over = leb 256 n }
@@ -154,7 +155,7 @@ module _ (text output : Bytes) (names₀ rules₀ literals₀ : List ℕ) (fits 
 
             go : PutsRule text output names rules literals (start k) r names′ rules′ literals′ → ReadsProgram text output names₀ rules₀ literals₀ a names′ rules′ literals′
             go (read c d o x s q) = absurd (false≢true (inv d ∙ z))
-            go (ended c d b i j l q) = rw (still b, ← (g .size), i, j, l) (answers fits (g .trees) u (length (g .before)) (g .walks ∙ q (g .trees)) all (λ o m y. none-behind (rules-for (g .trees)) (g .before) (placed-from false text at) (g .ended) o m (rw (← (g .whole)) at y)) fills)
+            go (ended c d b i j l q) = rw (still b, ← (g .size), i, j, l) (answers fits (g .trees) u (length (g .before)) (g .walks ∙ q (g .trees)) all (λ o m y. none-behind (rules-for (g .trees)) (g .before) (placed-from false text (at .start)) (g .ended) o m (rw (← (g .whole)) at y)) fills)
             go (stopped c q) = absurd (omega arith)
 
         module _ (z : r .ended ≡ false) where
@@ -163,7 +164,7 @@ module _ (text output : Bytes) (names₀ rules₀ literals₀ : List ℕ) (fits 
             pub room : n < 256
             pub tree-of : Tree false
             pub stands : Stands text output names rules literals (start k) tree-of r names′ rules′ literals′
-            pub behind : behind-rules false text (g .trees) at ≡ behind-rules false text (g .trees then tree-of) (r .progress .next)
+            pub behind : behind-rules false text (g .trees) (at .start) ≡ behind-rules false text (g .trees then tree-of) (r .progress .place .start)
 
           next : Next
           unfolding place
@@ -177,7 +178,7 @@ module _ (text output : Bytes) (names₀ rules₀ literals₀ : List ℕ) (fits 
           pub room : n < 256
           room = next .room
 
-          pub goes-on : k ≡ n → length names′ ≡ length names₀ → (variables′ : List ℕ) → length variables′ ≡ 32 → (v : Found) → v ≡ cond (u .found) u (r .unbound) → Going text output names₀ rules₀ literals₀ v (r .progress .next) (n + 1) names′ variables′ rules′ literals′
+          pub goes-on : k ≡ n → length names′ ≡ length names₀ → (variables′ : List ℕ) → length variables′ ≡ variables-size → (v : Found) → v ≡ cond (u .found) u (r .unbound) → Going text output names₀ rules₀ literals₀ v (r .progress .place) (n + 1) names′ variables′ rules′ literals′
           unfolding count rules-for
           goes-on same long variables′ wide v ev =
               record {
@@ -185,11 +186,11 @@ module _ (text output : Bytes) (names₀ rules₀ literals₀ : List ℕ) (fits 
                 trees = g .trees then x;
                 size = ap suc (g .size) ∙ inv (add-one n);
                 walks = g .walks ∙ next .behind;
-                before = g .before ++ to-dot (placed-from false text at);
-                whole = append-assoc (g .before) (to-dot (placed-from false text at)) (placed-from false text (r .progress .next)) ∙ ap (λ l. g .before ++ l) (tokens .whole) ∙ g .whole;
-                new = ap (seen programs []) (unplaced-append (g .before) (to-dot (placed-from false text at))) ∙ seen-append programs [] (unplaced (g .before)) (unplaced (to-dot (placed-from false text at))) ∙ tokens .forgets _;
-                ended = dots-append (g .before) (to-dot (placed-from false text at)) ∙ rw (g .ended, tokens .one-dot, length-append (rules-for (g .trees)) (rule-for x ∷ [])) refl;
-                remembered = λ more. rw (append-assoc (rules-for (g .trees)) (rule-for x ∷ []) more, length-append (g .before) (to-dot (placed-from false text at))) (over more);
+                before = g .before ++ to-dot (placed-from false text (at .start));
+                whole = append-assoc (g .before) (to-dot (placed-from false text (at .start))) (placed-from false text (r .progress .place .start)) ∙ ap (λ l. g .before ++ l) (tokens .whole) ∙ g .whole;
+                new = ap (seen programs []) (unplaced-append (g .before) (to-dot (placed-from false text (at .start)))) ∙ seen-append programs [] (unplaced (g .before)) (unplaced (to-dot (placed-from false text (at .start)))) ∙ tokens .forgets _;
+                ended = dots-append (g .before) (to-dot (placed-from false text (at .start))) ∙ rw (g .ended, tokens .one-dot, length-append (rules-for (g .trees)) (rule-for x ∷ [])) refl;
+                remembered = λ more. rw (append-assoc (rules-for (g .trees)) (rule-for x ∷ []) more, length-append (g .before) (to-dot (placed-from false text (at .start)))) (over more);
                 names-long = long;
                 variables-long = wide;
                 filled = filled-on text output names₀ rules₀ literals₀ asked fits (g .trees) at n names rules literals (g .filled) (leb 256 n) x r names′ rules′ literals′ (subst (λ (j : ℕ). Stands text output names rules literals (start j) x r names′ rules′ literals′) same (next .stands));
@@ -198,14 +199,14 @@ module _ (text output : Bytes) (names₀ rules₀ literals₀ : List ℕ) (fits 
               x : Tree false
               x = next .tree-of
 
-              tokens : Cut (placed-from false text at) (placed-from false text (r .progress .next))
-              tokens = cut (placed-from false text at) (placed-from false text (r .progress .next)) (next .stands .rest)
+              tokens : Cut (placed-from false text (at .start)) (placed-from false text (r .progress .place .start))
+              tokens = cut (placed-from false text (at .start)) (placed-from false text (r .progress .place .start)) (next .stands .rest)
 
-              over : (more : List (Rule Value)) → Remembered (rules-for (g .trees) ++ rule-for x ∷ more) (tokens-of text) (end-of text) (length (g .before) + length (to-dot (placed-from false text at))) v
-              over more = rw (g .whole) at (remember-on (rules-for (g .trees)) more (rule-for x) (g .before) (placed-from false text at) (g .new) (g .ended) (end-of text) u v (rw (← (g .whole)) at (g .remembered (rule-for x ∷ more))) kept looked)
+              over : (more : List (Rule Value)) → Remembered (rules-for (g .trees) ++ rule-for x ∷ more) (tokens-of text) (end-of text) (length (g .before) + length (to-dot (placed-from false text (at .start)))) v
+              over more = rw (g .whole) at (remember-on (rules-for (g .trees)) more (rule-for x) (g .before) (placed-from false text (at .start)) (g .new) (g .ended) (end-of text) u v (rw (← (g .whole)) at (g .remembered (rule-for x ∷ more))) kept looked)
                 where
                   kept : u .found ≡ true → v ≡ u
                   kept t = ev ∙ ap (λ b. cond b u (r .unbound)) t
 
-                  looked : u .found ≡ false → FirstUnbound (bound (rule-for x)) (firsts [] (placed-from false text at)) v
+                  looked : u .found ≡ false → FirstUnbound (bound (rule-for x)) (firsts [] (placed-from false text (at .start))) v
                   looked t = let q : v ≡ r .unbound = ev ∙ ap (λ b. cond b u (r .unbound)) t in rw q (next .stands .unbound)

@@ -109,7 +109,7 @@ module _ (program output : Bytes) (names variables rules literals : List ℕ) (s
                 PutsRule.read c refl o x
                 (record {
                   forward = h .forward;
-                  inside = h .inside;
+                  placed = h .placed;
                   grows = h .stands .grows;
                   rules-kept = stored .kept;
                   literals-kept = h .kept;

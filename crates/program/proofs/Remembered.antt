@@ -10,7 +10,7 @@ use native.Mathlib.Nat.{add-zero}
 use lib.Dec.{ltb}
 use lib.ListN.{length, length-append, getD, getElem?}
 use borrow.Author.Tests.{ltb-true, ltb-false}
-use Rattle.tokens.specs.declared.Place.{Place}
+use Rattle.tokens.specs.declared.place.Place.{Place}
 use Rattle.reading.specs.Reading.{unplaced, seen}
 use Rattle.reading.specs.Faults.{place-at}
 use Rattle.reading.proofs.Lists.{none-some, some-inj, unplaced-append, seen-append}
@@ -20,7 +20,7 @@ use Rattle.meaning.specs.Rules.{Rule}
 use Rattle.meaning.specs.Safety.{bound}
 use Rattle.meaning.proofs.Safety.{scan-exact}
 use Rattle.grammar.specs.Sizes.{programs}
-use Rattle.tokens.specs.Places.{nowhere}
+use Rattle.tokens.specs.Place.{text-start}
 use Rattle.syntax.specs.Ahead.{ends-rule, firsts}
 use Rattle.rulesafety.specs.declared.unbound.Unbound.{Unbound as Found}
 use Rattle.rulesafety.specs.Unbound.{no-unbound, FirstUnbound, found, all-bound}
@@ -135,13 +135,13 @@ module _ (rs more : List (Rule Value)) (rule : Rule Value) (before ahead : Token
 
   -- where this rule has an unbound variable, the first of them is the first case
   module _ (end : Place) (none-before : (j m : ℕ) → Unbound rules ts j m → length before ≤ j) where
-    remember-found : (r : Found) (x : ℕ) → x < length (firsts [] ahead) → bound rule x ≡ false → ((y : ℕ) → y < x → bound rule y ≡ true) → r ≡ record { found = true; place = getD (firsts [] ahead) x nowhere } → (n : ℕ) → Remembered rules ts end n r
+    remember-found : (r : Found) (x : ℕ) → x < length (firsts [] ahead) → bound rule x ≡ false → ((y : ℕ) → y < x → bound rule y ≡ true) → r ≡ record { found = true; place = getD (firsts [] ahead) x text-start } → (n : ℕ) → Remembered rules ts end n r
     remember-found r x h u low e n = first-case (length before + f .0) (case-of (f .0) x _ at-x u) (λ j m c. first j (in-rule j m c (none-before j m c))) (e ∙ ap (λ p. record { found = true; place = p }) (inv (place-of-case end (f .0) x _ at-x)))
       where
-        f : (i : ℕ) × FirstAt [] ahead i (0 + x) (getD (firsts [] ahead) x nowhere)
-        f = first-of [] ahead x nowhere h
+        f : (i : ℕ) × FirstAt [] ahead i (0 + x) (getD (firsts [] ahead) x text-start)
+        f = first-of [] ahead x text-start h
 
-        at-x : FirstAt [] ahead (f .0) x (getD (firsts [] ahead) x nowhere)
+        at-x : FirstAt [] ahead (f .0) x (getD (firsts [] ahead) x text-start)
         at-x = let z : 0 + x ≡ x = omega arith in rw z at (f .1)
 
         not-lower : (j : ℕ) (c : InRule j) → x ≤ c .variable

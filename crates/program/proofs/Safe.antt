@@ -5,15 +5,14 @@ use mathlib.Core.List.{List, [], _∷_, _++_, append-nil, append-assoc}
 use Prim.Native.Nat.{ℕ, suc, _+_, _<_}
 use native.Mathlib.Omega.{arith}
 use native.Mathlib.Nat.{add-zero}
-use lib.Dec.{ltb}
 use lib.ListN.{length, length-append}
 use Rattle.reading.specs.Reading.{tokens, unplaced, seen, tree, Answer, refused, Reading}
 use Rattle.reading.proofs.Lists.{tokens-append, seen-append}
-use Rattle.tokens.specs.declared.Place.{Place}
+use Rattle.tokens.specs.declared.place.Place.{Place}
 use Rattle.meaning.specs.Sets.{every}
 use Rattle.meaning.specs.Values.{Value}
 use Rattle.meaning.specs.Rules.{Bytes, Rule as MeantRule}
-use Rattle.meaning.specs.Safety.{head-bound, literal-bound, bound, safe}
+use Rattle.meaning.specs.Safety.{bound, safe}
 use Rattle.grammar.specs.Tokens.{dot, Token, symbol}
 use Rattle.grammar.specs.Trees.{empty, _then_, count, Rule, Program}
 use Rattle.grammar.specs.Spelling.{Mark, mere, spell-rule, spell}
@@ -22,7 +21,7 @@ use Rattle.grammar.specs.Sizes.{programs}
 use Rattle.grammar.specs.Moves.{symbol-number, token-number}
 use Rattle.grammar.specs.Abstraction.{rule-for, rules-for}
 use Rattle.grammar.proofs.Variables.{met-seen}
-use Rattle.tokens.specs.Places.{nowhere}
+use Rattle.tokens.specs.Place.{text-start}
 use Rattle.syntax.specs.Ahead.{firsts}
 use Rattle.syntax.specs.Text.{end-of}
 use Rattle.rulesafety.proofs.Safe.{safe-of-bound}
@@ -32,7 +31,7 @@ use Rattle.program.specs.Stage.{tokens-of, ProgramStage}
 use Rattle.program.proofs.Segments.{Meeting, ends, meets, passes, meeting, firsts-ends, firsts-meets, firsts-passes, first-of}
 use Rattle.program.proofs.Remembered.{same-cons, case-of}
 use Rattle.program.proofs.Numbered.{rule-variables, every-on, rule-below}
-use Rattle.program.proofs.Spelled.{dots-in, dots-unplaced, dots-in-append, Dotted, dotted}
+use Rattle.program.proofs.Spelled.{dots-in, dots-unplaced, dots-in-append, dotted}
 use Rattle.program.proofs.Taken.{read-is-read}
 
 -- ---- tokens with their places, split as the tokens are
@@ -161,7 +160,7 @@ module _ (p : Program false) (r : Rule false) (rest : List Token) (ts : Tokens) 
       go : (b : Bool) → bound (rule-for r) y ≡ b → bound (rule-for r) y ≡ true
       go true k = k
       go false k =
-          let f = first-of [] (s .ahead) y nowhere (omega (arith, s .many)) in
+          let f = first-of [] (s .ahead) y text-start (omega (arith, s .many)) in
           let z : 0 + y ≡ y = omega arith in
           absurd (none (length (s .before) + f .0) 5 (rw (s .whole) at (case-of (rules-for p) more (rule-for r) (s .before) (s .ahead) (s .new) (s .ended) (f .0) y _ (rw z at (f .1)) k)))
 

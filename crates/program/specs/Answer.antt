@@ -3,10 +3,10 @@ use mathlib.Core.Path.{_≡_}
 use mathlib.Core.Bool.{false}
 use mathlib.Core.List.{List}
 use Prim.Native.Nat.{ℕ}
-use Rattle.tokens.specs.declared.Place.{Place}
+use Rattle.tokens.specs.declared.place.Place.{Place}
 use Rattle.meaning.specs.Rules.{Bytes}
 use Rattle.grammar.specs.Trees.{count, Program}
-use Rattle.tokens.specs.Places.{nowhere}
+use Rattle.tokens.specs.Place.{text-start}
 use Rattle.stages.specs.Stage.{Outcome, on, stop}
 use Rattle.program.specs.declared.ProgramRead.{ProgramRead}
 use Rattle.program.specs.Stage.{ProgramStage}
@@ -18,7 +18,7 @@ refusal code place = record { code = code; place = place; count = 0 }
 
 -- how many rules there are
 abbrev pub readRules : ℕ → ProgramRead
-readRules n = record { code = 0; place = nowhere; count = n }
+readRules n = record { code = 0; place = text-start; count = n }
 
 unfoldable pub fields : Outcome (Program false) → ProgramRead
 fields (on c) = readRules (count c)

@@ -6,6 +6,7 @@ use mathlib.Core.List.{List, []}
 use Prim.Native.Nat.{ℕ, _+_, _-_, _*_, _≤_, _<_}
 use lib.ListN.{length}
 use Rattle.reading.specs.Reading.{tree, refused}
+use Rattle.tokens.specs.Place.{Stands as PlaceStands}
 use Rattle.meaning.specs.Sets.{In}
 use Rattle.meaning.specs.Rules.{Bytes}
 use Rattle.meaning.specs.Safety.{bound, safe}
@@ -52,22 +53,22 @@ pub record Owns (rules : List ℕ) (number : ℕ) : Type 0 where
 
 -- the rows stand for the rule x, and are as the engine asks where it is safe; its first variable that is not bound; where it ends
 pub record Stands (program output : Bytes) (names rules literals : List ℕ) (s : RuleStart) (x : Tree false) (r : RulePut) (names′ rules′ literals′ : List ℕ) : Type 0 where
-  pub forward : s .at ≤ r .progress .next
-  pub inside : r .progress .next ≤ length program
-  pub grows : Grows program output names (r .progress .next - s .at) names′
+  pub forward : s .at .start ≤ r .progress .place .start
+  pub placed : PlaceStands program (r .progress .place)
+  pub grows : Grows program output names (r .progress .place .start - s .at .start) names′
   pub rules-kept : Kept (s .number * rule-stride) (s .number * rule-stride + rule-stride) rules rules′
   pub literals-kept : Kept (s .number * rule-rows * literal-stride) ((s .number * rule-rows + rule-rows) * literal-stride) literals literals′
   pub stands : RelatedRule (CodedName (names-of program output names′)) (Coded (names-of program output names′)) (rule-at rules′ literals′ (s .number)) (rule-for x)
   pub owns : Owns rules′ (s .number)
   pub row : safe (rule-for x) ≡ true → RuleRow rules′ literals′ (s .number)
-  pub unbound : FirstUnbound (bound (rule-for x)) (firsts [] (placed-from false program (s .at))) (r .unbound)
-  pub rest : behind-dot (placed-from false program (s .at)) ≡ some (placed-from false program (r .progress .next))
+  pub unbound : FirstUnbound (bound (rule-for x)) (firsts [] (placed-from false program (s .at .start))) (r .unbound)
+  pub rest : behind-dot (placed-from false program (s .at .start)) ≡ some (placed-from false program (r .progress .place .start))
 
 -- a rule, the end of the text, or a refusal
 pub data PutsRule (program output : Bytes) (names rules literals : List ℕ) (s : RuleStart) (r : RulePut) (names′ rules′ literals′ : List ℕ) : Type 0 where
-  read : r .progress .code ≡ 0 → r .ended ≡ false → s .over ≡ false → (x : Tree false) → Stands program output names rules literals s x r names′ rules′ literals′ → ((h : RulePlace false (s .over)) → behind-rules false program (h .rules) (s .at) ≡ behind-rules false program (h .rules then x) (r .progress .next)) → PutsRule program output names rules literals s r names′ rules′ literals′
-  ended : r .progress .code ≡ 0 → r .ended ≡ true → r .unbound ≡ no-unbound → names′ ≡ names → rules′ ≡ rules → literals′ ≡ literals → ((p : Program false) → behind-rules false program p (s .at) ≡ tree p) → PutsRule program output names rules literals s r names′ rules′ literals′
-  stopped : 2 ≤ r .progress .code → ((h : RulePlace false (s .over)) → behind-rules false program (h .rules) (s .at) ≡ refused (r .progress .code) (r .progress .place)) → PutsRule program output names rules literals s r names′ rules′ literals′
+  read : r .progress .code ≡ 0 → r .ended ≡ false → s .over ≡ false → (x : Tree false) → Stands program output names rules literals s x r names′ rules′ literals′ → ((h : RulePlace false (s .over)) → behind-rules false program (h .rules) (s .at .start) ≡ behind-rules false program (h .rules then x) (r .progress .place .start)) → PutsRule program output names rules literals s r names′ rules′ literals′
+  ended : r .progress .code ≡ 0 → r .ended ≡ true → r .unbound ≡ no-unbound → names′ ≡ names → rules′ ≡ rules → literals′ ≡ literals → ((p : Program false) → behind-rules false program p (s .at .start) ≡ tree p) → PutsRule program output names rules literals s r names′ rules′ literals′
+  stopped : 2 ≤ r .progress .code → ((h : RulePlace false (s .over)) → behind-rules false program (h .rules) (s .at .start) ≡ refused (r .progress .code) (r .progress .place)) → PutsRule program output names rules literals s r names′ rules′ literals′
 
 abbrev pub refusedPut : Progress → Bool → RulePut
 refusedPut p e = record { progress = p; ended = e; unbound = no-unbound }

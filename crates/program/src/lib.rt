@@ -10,8 +10,8 @@ use crate::put::RuleStart;
 use crate::put::put_rule;
 use rulesafety::unbound::NO_UNBOUND;
 use rulesafety::unbound::Unbound;
-use tokens::NOWHERE;
-use tokens::Place;
+use tokens::place::Place;
+use tokens::place::TEXT_START;
 use tokens::places::PLACE;
 use tokens::sizes::MOST_RULES;
 use tokens::sizes::MOST_TEXT;
@@ -63,7 +63,7 @@ fn finished(unbound: Unbound, count: usize) -> ProgramRead
     }
     ProgramRead {
         code: 0,
-        place: NOWHERE,
+        place: TEXT_START,
         count,
     }
 }
@@ -82,7 +82,7 @@ fn read_rules<'a>(
 {
     let mut places = [0u32; MOST_VARIABLES * PLACE];
     let mut unbound = NO_UNBOUND;
-    let mut at = 0;
+    let mut at = TEXT_START;
     let mut count = 0;
     loop {
         let start = RuleStart {
@@ -99,7 +99,7 @@ fn read_rules<'a>(
         if read.ended {
             return finished(unbound, count);
         }
-        at = read.progress.next;
+        at = read.progress.place;
         count += 1;
     }
 }
@@ -116,7 +116,7 @@ pub fn read_program<'a>(
     ensures { λ r. ⌜ ReadsProgram (now (program .entry)) (now (output .entry)) (now (names .entry)) (now (rules .entry)) (now (literals .entry)) r (now (names .exit)) (now (rules .exit)) (now (literals .exit)) ⌝ }
 {
     if MOST_TEXT < program.len() {
-        return refused(OVER_SIZE, NOWHERE);
+        return refused(OVER_SIZE, TEXT_START);
     }
     read_rules(program, output, names, rules, literals)
 }

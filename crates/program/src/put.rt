@@ -9,10 +9,11 @@ use rulesafety::unbound::first_unbound;
 use syntax::token::Progress;
 use tables::ROWS;
 use terms::cursor::Cursor;
+use tokens::place::Place;
 
 // Where a rule starts in the program, its number, and whether it is one too many.
 pub struct RuleStart {
-    pub at: usize,
+    pub at: Place,
     pub number: usize,
     pub over: bool,
 }
@@ -49,9 +50,10 @@ pub fn put_rule<'a>(
     ensures { λ r. ⌜ PutsRule (now (program .entry)) (now (output .entry)) (now (names .entry)) (now (rules .entry)) (now (literals .entry)) start r (now (names .exit)) (now (rules .exit)) (now (literals .exit)) ⌝ }
 {
     let number = start.number;
+    let at = start.at;
     let cursor = Cursor {
         base: 0,
-        at: start.at,
+        at,
         ground: false,
         over: start.over,
         met: 0,

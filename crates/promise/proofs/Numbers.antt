@@ -6,7 +6,7 @@ use mathlib.Core.List.{List}
 use Prim.Native.Nat.{ℕ, suc, _≤_}
 use native.Mathlib.Decide.{ℕ-discrete}
 use native.Mathlib.Omega.{arith}
-use Rattle.tokens.specs.declared.Place.{Place}
+use Rattle.tokens.specs.declared.place.Place.{Place}
 use Rattle.reading.specs.Reading.{Marked}
 use Rattle.meaning.specs.Rules.{Bytes, Fact, Rule}
 use Rattle.meaning.specs.Values.{Value}
@@ -70,7 +70,7 @@ behind-among text words.Unknown line next = closing-among claim-unknown text nex
 output-among : (text : Bytes) → Among 1 4 (OutputStage text)
 output-among text =
     then-among 1 4 _ _ (refuse-among 1 4 _ _ _ (omega arith) (omega arith)) (λ u.
-    then-among 1 4 _ _ (opening-among text) (λ o. behind-among text (o .word) (o .line) (o .next)))
+    then-among 1 4 _ _ (opening-among text) (λ o. behind-among text (o .word) (o .line) (o .next .start)))
 
 clash-among : (I : List (Fact Value)) (i n : ℕ) → Clash I i n → (6 ≤ n) × (n ≤ 7)
 clash-among I i n (repeats _ j a l e f) = (omega arith, omega arith)

@@ -4,7 +4,7 @@ use mathlib.Core.Bool.{true, false}
 use mathlib.Core.List.{List}
 use Prim.Native.Nat.{ℕ, _<_}
 use lib.ListN.{length}
-use Rattle.tokens.specs.declared.Place.{Place}
+use Rattle.tokens.specs.declared.place.Place.{Place}
 use Rattle.tokens.specs.Tokens.{part}
 use Rattle.meaning.specs.Rules.{Bytes}
 use Rattle.grammar.specs.Trees.{Program}
@@ -24,7 +24,7 @@ abbrev pub rule-part : Bytes → ℕ → Part
 rule-part text k = in-text program (sentence false text k)
 
 abbrev pub fact-part : Bytes → Place → ℕ → Part
-fact-part text line k = in-text output (on-line line (sentence true (part text line) k))
+fact-part text line k = in-text output (on-line text line (sentence true (part text line) k))
 
 -- ---- the stages
 

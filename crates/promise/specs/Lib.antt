@@ -4,4 +4,5 @@ pub mod Cases
 pub mod Judged
 pub mod Answered
 pub mod Refusals
+pub mod Located
 pub mod Ready

@@ -2,6 +2,7 @@
 pub mod LineList
 pub mod WholeLines
 pub mod HandedOut
+pub mod Located
 pub mod TakenApart
 pub mod PassedOn
 pub mod Starting

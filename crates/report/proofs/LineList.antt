@@ -9,12 +9,12 @@ use lib.Dec.{eqb, ltb}
 use lib.ListN.{length, take, drop, length-take, length-drop, drop-of-length-le}
 use lib.Seq.{drop-drop}
 use borrow.Author.Tests.{ltb-true, ltb-false}
-use Rattle.tokens.specs.declared.Place.{Place}
+use Rattle.tokens.specs.declared.place.Span.{Span}
 use Rattle.tokens.specs.Run.{inLine, prefixLen}
 use Rattle.tokens.proofs.Prefix.{prefix-nil, prefix-more, prefix-none}
 use Rattle.tokens.proofs.Every.{prefix-inside}
-use Rattle.tokens.specs.Tokens.{part}
-use Rattle.tokens.specs.Places.{place-from}
+use Rattle.tokens.specs.Tokens.{bytes-in}
+use Rattle.tokens.specs.Places.{span-from}
 use Rattle.report.specs.Lines.{longer, linesAt, linesFrom, lineEnd, nextLine, lineAt}
 
 pub lines-nil : (at : ℕ) → linesAt at [] ≡ []
@@ -22,7 +22,7 @@ unfolding linesAt
 lines-nil at = refl
 
 module _ (at b : ℕ) (rest : List ℕ) where
-  pub lines-newline : eqb b 10 ≡ true → linesAt at (b ∷ rest) ≡ place-from at 0 ∷ linesAt (suc at) rest
+  pub lines-newline : eqb b 10 ≡ true → linesAt at (b ∷ rest) ≡ span-from at 0 ∷ linesAt (suc at) rest
   unfolding linesAt
   lines-newline e = rw e
 
@@ -40,8 +40,8 @@ module _ (b : ℕ) where
   others-in e = rw e
 
 -- a line of n bytes at a place, and the lines behind it: `rest` stands behind the line's first byte, or behind its newline
-abbrev unrolled : ℕ → ℕ → List ℕ → List Place
-unrolled at n rest = place-from at n ∷ linesAt (suc at + n) (drop n rest)
+abbrev unrolled : ℕ → ℕ → List ℕ → List Span
+unrolled at n rest = span-from at n ∷ linesAt (suc at + n) (drop n rest)
 
 longer-none : (at : ℕ) → longer at (linesAt (suc at) []) ≡ unrolled at (suc (prefixLen inLine [])) []
 longer-none at = rw (lines-nil (suc at), lines-nil (suc at + suc (prefixLen inLine [])), prefix-nil inLine)
@@ -72,7 +72,7 @@ module _ (text : List ℕ) (at : ℕ) where
   pub lines-none : length text ≤ at → linesFrom text at ≡ []
   lines-none h = rw (drop-of-length-le text h) (lines-nil at)
 
-  pub line-none : length text ≤ at → part text (lineAt text at) ≡ []
+  pub line-none : length text ≤ at → bytes-in text (lineAt text at) ≡ []
   line-none h = ap (take (lineAt text at .len)) (drop-of-length-le text h) ∙ take-nil (lineAt text at .len)
 
   pub end-inside : at < length text → lineEnd text at ≤ length text
@@ -86,12 +86,12 @@ behind-newline text end = go (ltb end (length text)) refl
     go true e = rw e
     go false e = rw e (lines-none text (end + 1) (omega (arith, ltb-false end (length text) e)) ∙ sym (lines-none text (length text) (omega arith)))
 
-unrolled-at : (at : ℕ) (s : List ℕ) → 0 < length s → linesAt at s ≡ place-from at (prefixLen inLine s) ∷ linesAt (suc at + prefixLen inLine s) (drop (suc (prefixLen inLine s)) s)
+unrolled-at : (at : ℕ) (s : List ℕ) → 0 < length s → linesAt at s ≡ span-from at (prefixLen inLine s) ∷ linesAt (suc at + prefixLen inLine s) (drop (suc (prefixLen inLine s)) s)
 unrolled-at at [] h = absurd (let z : ⊥ = omega arith in z)
 unrolled-at at (b ∷ rest) h = first-line at b rest
 
 -- the line that starts at a place, and the lines from the next one on
-pub lines-more : (text : List ℕ) (at : ℕ) → at < length text → linesFrom text at ≡ place-from at (lineEnd text at - at) ∷ linesFrom text (nextLine text (lineEnd text at))
+pub lines-more : (text : List ℕ) (at : ℕ) → at < length text → linesFrom text at ≡ span-from at (lineEnd text at - at) ∷ linesFrom text (nextLine text (lineEnd text at))
 lines-more text at h =
     let n = prefixLen inLine (drop at text) in
     let len : lineEnd text at - at ≡ n = omega arith in
@@ -100,8 +100,8 @@ lines-more text at h =
     let rest : drop (suc n) (drop at text) ≡ drop (suc at + n) text = drop-drop (suc n) at text ∙ ap (λ (i : ℕ). drop i text) next in
     rw (len, ← (behind-newline text (lineEnd text at)), ← shift, ← rest) (unrolled-at at (drop at text) (omega (arith, length-drop at text)))
 
--- a line that is had by its bytes: its end, its place, and the lines from it on
-module _ (text line : List ℕ) (at : ℕ) (e : line ≡ part text (lineAt text at)) where
+-- a line that is had by its bytes: its end, its span, and the lines from it on
+module _ (text line : List ℕ) (at : ℕ) (e : line ≡ bytes-in text (lineAt text at)) where
   its-length : length line ≡ lineEnd text at - at
   its-length =
       let inside = prefix-inside inLine (drop at text) in
@@ -111,15 +111,11 @@ module _ (text line : List ℕ) (at : ℕ) (e : line ≡ part text (lineAt text 
   pub its-end : at + length line ≡ lineEnd text at
   its-end = omega (arith, its-length)
 
-  pub its-bytes : part text (place-from at (length line)) ≡ line
-  its-bytes = ap (λ (n : ℕ). part text (place-from at n)) its-length ∙ sym e
+  pub its-bytes : bytes-in text (span-from at (length line)) ≡ line
+  its-bytes = ap (λ (n : ℕ). bytes-in text (span-from at n)) its-length ∙ sym e
 
-  module _ (h : at < length text) where
-    pub its-end-inside : at + length line ≤ length text
-    its-end-inside = omega (arith, its-end, end-inside text at h)
-
-    pub lines-its : linesFrom text at ≡ place-from at (length line) ∷ linesFrom text (nextLine text (at + length line))
-    lines-its = rw (its-end, its-length) (lines-more text at h)
+  pub lines-its : at < length text → linesFrom text at ≡ span-from at (length line) ∷ linesFrom text (nextLine text (at + length line))
+  lines-its h = rw (its-end, its-length) (lines-more text at h)
 
 -- the line behind a line begins inside the text, and further on
 pub next-inside : (text : List ℕ) (end : ℕ) → nextLine text end ≤ length text
@@ -139,27 +135,32 @@ less-left text at h end f next n = go (ltb end (length text)) refl
     go false e = let z : next ≡ length text = rw (n, e) in omega arith
 
 -- where there is a line, it is the one that starts there, and the others begin behind it
-pub lines-cons : (text : List ℕ) (at : ℕ) (l : Place) (ls : List Place) → linesFrom text at ≡ l ∷ ls
-    → (at < length text) × (l ≡ place-from at (lineEnd text at - at)) × (ls ≡ linesFrom text (nextLine text (lineEnd text at)))
+pub lines-cons : (text : List ℕ) (at : ℕ) (l : Span) (ls : List Span) → linesFrom text at ≡ l ∷ ls
+    → (at < length text) × (l ≡ span-from at (lineEnd text at - at)) × (ls ≡ linesFrom text (nextLine text (lineEnd text at)))
 lines-cons text at l ls e = go (ltb at (length text)) refl
   where
-    go : (t : Bool) → ltb at (length text) ≡ t → (at < length text) × (l ≡ place-from at (lineEnd text at - at)) × (ls ≡ linesFrom text (nextLine text (lineEnd text at)))
+    go : (t : Bool) → ltb at (length text) ≡ t → (at < length text) × (l ≡ span-from at (lineEnd text at - at)) × (ls ≡ linesFrom text (nextLine text (lineEnd text at)))
     go true b =
         let h = ltb-true at (length text) b in
         let m = lines-more text at h in
         (h, cc, cc)
     go false b = absurd (nil≢cons (sym (lines-none text at (ltb-false at (length text) b)) ∙ e))
 
--- a line lies inside the text and not before the first, and the lines behind it begin behind its newline
-pub lines-behind : (text : List ℕ) (at : ℕ) (before : List Place) (l : Place) (behind : List Place) → linesFrom text at ≡ before ++ (l ∷ behind)
-    → (at ≤ l .start) × (l .start + l .len ≤ length text) × (behind ≡ linesFrom text (nextLine text (l .start + l .len)))
+-- a line, of those from a place on, and the lines behind it
+pub record Among (text : List ℕ) (at : ℕ) (l : Span) (behind : List Span) : Type 0 where
+  pub further : at ≤ l .start
+  pub inside : l .start + l .len ≤ length text
+  pub whole : l .start + l .len ≡ lineEnd text (l .start)
+  pub rest : behind ≡ linesFrom text (nextLine text (l .start + l .len))
+
+pub lines-behind : (text : List ℕ) (at : ℕ) (before : List Span) (l : Span) (behind : List Span) → linesFrom text at ≡ before ++ (l ∷ behind) → Among text at l behind
 lines-behind text at [] l behind e =
     let m = lines-cons text at l behind e in
     let start : l .start ≡ at = rw (m .1) in
     let end : l .start + l .len ≡ lineEnd text at = rw (m .1) (omega arith) in
-    (omega arith, omega (arith, end-inside text at (m .0)), rw end (m .2))
+    record { further = omega arith; inside = omega (arith, end-inside text at (m .0)); whole = end ∙ ap (lineEnd text) (sym start); rest = rw end (m .2) }
 lines-behind text at (b ∷ before) l behind e =
     let m = lines-cons text at b (before ++ (l ∷ behind)) e in
     let h = lines-behind text (nextLine text (lineEnd text at)) before l behind (sym (m .2)) in
     let f = less-left text at (m .0) (lineEnd text at) refl (nextLine text (lineEnd text at)) refl in
-    (omega arith, h .1, h .2)
+    record { further = omega arith; inside = h .inside; whole = h .whole; rest = h .rest }

@@ -6,14 +6,18 @@ use mathlib.Core.Bool.{true, false}
 use mathlib.Core.List.{List, [], _∷_}
 use lib.Dec.{eqb}
 use lib.ListN.{length, getD}
-use Rattle.tokens.specs.declared.Place.{Place}
-use Rattle.tokens.specs.Tokens.{part}
-use Rattle.tokens.specs.Places.{place-from}
+use Rattle.tokens.specs.declared.place.Place.{Place}
+use Rattle.tokens.specs.declared.place.Span.{Span}
+use Rattle.tokens.specs.Tokens.{bytes-in}
+use Rattle.tokens.specs.Place.{Stands, with-len}
+use Rattle.tokens.specs.Places.{span-from}
+use Rattle.tokens.proofs.Counting.{as-from}
 use Rattle.report.specs.declared.around.Found.{Found}
-use Rattle.report.specs.declared.around.Found.the-variants.{Nothing, Line}
+use Rattle.report.specs.declared.around.Found.the-variants.{End, Line}
 use Rattle.report.specs.Lines.{linesFrom, nextLine, lineAt}
 use Rattle.report.specs.Around.{isIdle, OutOfPlace, none, some}
 use Rattle.report.proofs.LineList.{lines-none, its-bytes, lines-its}
+use Rattle.report.proofs.Located.{at-end}
 
 pub idle-empty : (line : List ℕ) → length line ≡ 0 → true ≡ isIdle line
 idle-empty [] h = refl
@@ -23,21 +27,23 @@ pub idle-first : (line : List ℕ) → (length line ≡ 0 → ⊥) → eqb (getD
 idle-first [] h = absurd (h refl)
 idle-first (b ∷ rest) h = refl
 
-pub none-left : (text : List ℕ) (at : ℕ) → length text ≤ at → OutOfPlace text at Nothing
-none-left text at h = none (rw (lines-none text at h) tt)
+module _ (text : List ℕ) (at : Place) (s : Stands text at) where
+  pub none-left : length text ≤ at .start → OutOfPlace text (at .start) (End (with-len at 0))
+  none-left h = rw (at-end text at s h) (none (rw (lines-none text (at .start) h) tt))
 
--- a loop has the line that starts at a place by its bytes
-module _ (text line : List ℕ) (at : ℕ) (e : line ≡ part text (lineAt text at)) (h : at < length text) where
-  abbrev here : Place
-  here = place-from at (length line)
+  -- a loop has the line that starts at a place by its bytes
+  module _ (line : List ℕ) (e : line ≡ bytes-in text (lineAt text (at .start))) (h : at .start < length text) where
+    abbrev here : Span
+    here = span-from (at .start) (length line)
 
-  pub stop-here : isIdle line ≡ false → OutOfPlace text at (Line here)
-  stop-here o =
-      some here (linesFrom text (nextLine text (at + length line)))
-      (record { before = []; split = lines-its text line at e h; idle = tt; other = ap isIdle (its-bytes text line at e) ∙ o })
+    pub stop-here : isIdle line ≡ false → OutOfPlace text (at .start) (Line (with-len at (length line)))
+    stop-here o =
+        rw (as-from text at s (length line))
+        (some here (linesFrom text (nextLine text (at .start + length line)))
+        (record { before = []; split = lines-its text line (at .start) e h; idle = tt; other = ap isIdle (its-bytes text line (at .start) e) ∙ o }))
 
-  pub pass-on : isIdle line ≡ true → {r : Found} → OutOfPlace text (nextLine text (at + length line)) r → OutOfPlace text at r
-  pass-on i (none all) = none (rw (lines-its text line at e h) (ap isIdle (its-bytes text line at e) ∙ i, all))
-  pass-on i (some other behind f) =
-      some other behind
-      (record { before = here ∷ f .before; split = lines-its text line at e h ∙ ap (λ (ls : List Place). here ∷ ls) (f .split); idle = (ap isIdle (its-bytes text line at e) ∙ i, f .idle); other = f .other })
+    pub pass-on : isIdle line ≡ true → {r : Found} → OutOfPlace text (nextLine text (at .start + length line)) r → OutOfPlace text (at .start) r
+    pass-on i (none all) = none (rw (lines-its text line (at .start) e h) (ap isIdle (its-bytes text line (at .start) e) ∙ i, all))
+    pass-on i (some other behind f) =
+        some other behind
+        (record { before = here ∷ f .before; split = lines-its text line (at .start) e h ∙ ap (λ (ls : List Span). here ∷ ls) (f .split); idle = (ap isIdle (its-bytes text line (at .start) e) ∙ i, f .idle); other = f .other })

@@ -1,4 +1,4 @@
--- The lines of a text are in order and unbroken, and joined with newlines they are the text; and no other places are.
+-- The lines of a text are in order and unbroken, and joined with newlines they are the text; and no other spans are.
 use Prim.Native.Nat.{ℕ, zero, suc, _+_, _-_, _<_}
 use native.Mathlib.Nat.{add-zero}
 use native.Mathlib.Omega.{arith}
@@ -9,14 +9,14 @@ use mathlib.Core.List.{List, [], _∷_, _++_, nil≢cons, tail-eq-of-cons-eq}
 use lib.Dec.{eqb}
 use lib.ListN.{length, take, drop, length-drop}
 use lib.Seq.{drop-drop}
-use Rattle.tokens.specs.declared.Place.{Place}
+use Rattle.tokens.specs.declared.place.Span.{Span}
 use Rattle.tokens.specs.Run.{inLine}
 use Rattle.tokens.specs.Spelling.{every}
-use Rattle.tokens.specs.Tokens.{part}
+use Rattle.tokens.specs.Tokens.{bytes-in}
 use borrow.Author.Tests.{eqb-true, eq-eqb, not-true}
 use Rattle.tokens.proofs.Conjunction.{both}
 use Rattle.tokens.proofs.Every.{every-nil}
-use Rattle.tokens.specs.Places.{place-from}
+use Rattle.tokens.specs.Places.{span-from}
 use Rattle.report.specs.Lines.{longer, linesAt, lines, InOrder, joined, ended, AreLines}
 use Rattle.report.proofs.LineList.{lines-nil, lines-newline, lines-longer, others-in}
 
@@ -60,10 +60,10 @@ module _ (text : List ℕ) (at b : ℕ) (rest : List ℕ) (e : drop at text ≡ 
       ap (λ (i : ℕ). drop i text) (sym one) ∙ sym (drop-drop 1 at text) ∙ ap (drop 1) e
 
   -- the bytes of a line that starts here: the first of them, and those of a line that starts behind it
-  part-more : (n : ℕ) → part text (place-from at (suc n)) ≡ b ∷ part text (place-from (suc at) n)
-  part-more n = rw (e, next)
+  bytes-more : (n : ℕ) → bytes-in text (span-from at (suc n)) ≡ b ∷ bytes-in text (span-from (suc at) n)
+  bytes-more n = rw (e, next)
 
-  newline-are : eqb b 10 ≡ true → (ls : List Place) → AreLines text (suc at) rest ls → AreLines text at (b ∷ rest) (place-from at 0 ∷ ls)
+  newline-are : eqb b 10 ≡ true → (ls : List Span) → AreLines text (suc at) rest ls → AreLines text at (b ∷ rest) (span-from at 0 ∷ ls)
   newline-are q ls h =
       let f = here in
       record {
@@ -72,22 +72,22 @@ module _ (text : List ℕ) (at b : ℕ) (rest : List ℕ) (e : drop at text ≡ 
         whole = rw (ended-newline b rest q, eqb-true b 10 q, h .whole);
       }
 
-  longer-are : eqb b 10 ≡ false → (ls : List Place) → AreLines text (suc at) rest ls → AreLines text at (b ∷ rest) (longer at ls)
+  longer-are : eqb b 10 ≡ false → (ls : List Span) → AreLines text (suc at) rest ls → AreLines text at (b ∷ rest) (longer at ls)
   longer-are q [] h =
       let f = here in
       record {
         in-order = (refl, f, omega arith, tt);
-        unbroken = (rw (part-more 0) (every-more b [] (others-in b q) (every-nil inLine)), tt);
-        whole = rw (part-more 0, ended-none rest (h .whole), q);
+        unbroken = (rw (bytes-more 0) (every-more b [] (others-in b q) (every-nil inLine)), tt);
+        whole = rw (bytes-more 0, ended-none rest (h .whole), q);
       }
   longer-are q (l ∷ ls) h =
       let f = here in
-      let same : part text l ≡ part text (place-from (suc at) (l .len)) = ap (λ (i : ℕ). take (l .len) (drop i text)) (h .in-order .0) in
+      let same : bytes-in text l ≡ bytes-in text (span-from (suc at) (l .len)) = ap (λ (i : ℕ). take (l .len) (drop i text)) (h .in-order .0) in
       let shift : suc (suc at + l .len) ≡ suc (at + suc (l .len)) = omega arith in
       record {
         in-order = (refl, f, omega (arith, h .in-order .2), subst (λ (i : ℕ). InOrder (length text) i ls) shift (h .in-order .3));
-        unbroken = (rw (part-more (l .len), ← same) (every-more b (part text l) (others-in b q) (h .unbroken .0)), h .unbroken .1);
-        whole = rw (part-more (l .len), ← same, h .whole) (sym (ended-more b rest (part text l) 10 (joined text ls) (h .whole)));
+        unbroken = (rw (bytes-more (l .len), ← same) (every-more b (bytes-in text l) (others-in b q) (h .unbroken .0)), h .unbroken .1);
+        whole = rw (bytes-more (l .len), ← same, h .whole) (sym (ended-more b rest (bytes-in text l) 10 (joined text ls) (h .whole)));
       }
 
 are : (text : List ℕ) (at : ℕ) (bytes : List ℕ) → drop at text ≡ bytes → AreLines text at bytes (linesAt at bytes)
@@ -103,9 +103,9 @@ lines-are text = are text 0 text refl
 
 -- ---- nothing else is
 
-joined-none : (text : List ℕ) (ls : List Place) → joined text ls ≡ [] → ls ≡ []
+joined-none : (text : List ℕ) (ls : List Span) → joined text ls ≡ [] → ls ≡ []
 joined-none text [] e = refl
-joined-none text (l ∷ ls) e = not-empty (part text l) 10 (joined text ls) e
+joined-none text (l ∷ ls) e = not-empty (bytes-in text l) 10 (joined text ls) e
 
 ended-first : (b : ℕ) (rest : List ℕ) → (tail : List ℕ) × (ended (b ∷ rest) ≡ b ∷ tail)
 ended-first b [] = (_, refl)
@@ -115,8 +115,8 @@ ended-last : (b : ℕ) (rest : List ℕ) → (rest ≡ []) ⊎ ((0 < length rest
 ended-last b [] = inl refl
 ended-last b (c ∷ more) = inr (omega arith, refl)
 
-module _ (text : List ℕ) (at b : ℕ) (rest : List ℕ) (e : drop at text ≡ b ∷ rest) (ih : (ls : List Place) → AreLines text (suc at) rest ls → ls ≡ linesAt (suc at) rest) where
-  only-newline : (ls : List Place) → AreLines text at (b ∷ rest) (place-from at 0 ∷ ls) → place-from at 0 ∷ ls ≡ linesAt at (b ∷ rest)
+module _ (text : List ℕ) (at b : ℕ) (rest : List ℕ) (e : drop at text ≡ b ∷ rest) (ih : (ls : List Span) → AreLines text (suc at) rest ls → ls ≡ linesAt (suc at) rest) where
+  only-newline : (ls : List Span) → AreLines text at (b ∷ rest) (span-from at 0 ∷ ls) → span-from at 0 ∷ ls ≡ linesAt at (b ∷ rest)
   only-newline ls h =
       let first = ended-first b rest in
       let start : 10 ∷ joined text ls ≡ b ∷ first .0 = h .whole ∙ first .1 in
@@ -124,53 +124,53 @@ module _ (text : List ℕ) (at b : ℕ) (rest : List ℕ) (e : drop at text ≡ 
       let q : eqb b 10 ≡ true = eq-eqb b 10 byte in
       let tail : b ∷ ended rest ≡ 10 ∷ joined text ls = sym (ended-newline b rest q) ∙ sym (h .whole) in
       let are-rest : AreLines text (suc at) rest ls = record { in-order = rw (add-zero at) at (h .in-order .3); unbroken = h .unbroken .1; whole = cc } in
-      rw (lines-newline at b rest q) (ap (λ (ms : List Place). place-from at 0 ∷ ms) (ih ls are-rest))
+      rw (lines-newline at b rest q) (ap (λ (ms : List Span). span-from at 0 ∷ ms) (ih ls are-rest))
 
-  module _ (n : ℕ) (ls : List Place) (h : AreLines text at (b ∷ rest) (place-from at (suc n) ∷ ls)) where
+  module _ (n : ℕ) (ls : List Span) (h : AreLines text at (b ∷ rest) (span-from at (suc n) ∷ ls)) where
     left : length text - at ≡ suc (length rest)
     left = sym (length-drop at text) ∙ ap length e
 
-    unbroken : (inLine b ≡ true) × (every inLine (part text (place-from (suc at) n)) ≡ true)
-    unbroken = every-first b (part text (place-from (suc at) n)) (rw (part-more text at b rest e n) at (h .unbroken .0))
+    unbroken : (inLine b ≡ true) × (every inLine (bytes-in text (span-from (suc at) n)) ≡ true)
+    unbroken = every-first b (bytes-in text (span-from (suc at) n)) (rw (bytes-more text at b rest e n) at (h .unbroken .0))
 
-    whole : b ∷ (part text (place-from (suc at) n) ++ (10 ∷ joined text ls)) ≡ ended (b ∷ rest)
-    whole = rw (part-more text at b rest e n) at (h .whole)
+    whole : b ∷ (bytes-in text (span-from (suc at) n) ++ (10 ∷ joined text ls)) ≡ ended (b ∷ rest)
+    whole = rw (bytes-more text at b rest e n) at (h .whole)
 
     other : eqb b 10 ≡ false
     unfolding inLine
     other = not-true (eqb b 10) (unbroken .0)
 
-    only-last : rest ≡ [] → place-from at (suc n) ∷ ls ≡ linesAt at (b ∷ rest)
+    only-last : rest ≡ [] → span-from at (suc n) ∷ ls ≡ linesAt at (b ∷ rest)
     only-last q =
         let none : n ≡ 0 = omega (arith, left, ap length q, h .in-order .2) in
-        let bytes : part text (place-from (suc at) n) ≡ [] = rw none in
-        let all : b ∷ (part text (place-from (suc at) n) ++ (10 ∷ joined text ls)) ≡ b ∷ 10 ∷ [] = whole ∙ rw (q, other) in
+        let bytes : bytes-in text (span-from (suc at) n) ≡ [] = rw none in
+        let all : b ∷ (bytes-in text (span-from (suc at) n) ++ (10 ∷ joined text ls)) ≡ b ∷ 10 ∷ [] = whole ∙ rw (q, other) in
         let behind : 10 ∷ joined text ls ≡ 10 ∷ [] = rw bytes at (tail-eq-of-cons-eq all) in
         rw (none, joined-none text ls (tail-eq-of-cons-eq behind), lines-longer at b rest other, q, lines-nil (suc at))
 
-    only-more : (0 < length rest) × (ended (b ∷ rest) ≡ b ∷ ended rest) → place-from at (suc n) ∷ ls ≡ linesAt at (b ∷ rest)
+    only-more : (0 < length rest) × (ended (b ∷ rest) ≡ b ∷ ended rest) → span-from at (suc n) ∷ ls ≡ linesAt at (b ∷ rest)
     only-more q =
         let shift : suc (at + suc n) ≡ suc (suc at + n) = omega arith in
-        let shorter : AreLines text (suc at) rest (place-from (suc at) n ∷ ls) =
+        let shorter : AreLines text (suc at) rest (span-from (suc at) n ∷ ls) =
         record {
           in-order = (refl, omega (arith, left), omega (arith, h .in-order .2), subst (λ (i : ℕ). InOrder (length text) i ls) shift (h .in-order .3));
           unbroken = (unbroken .1, h .unbroken .1);
           whole = tail-eq-of-cons-eq (whole ∙ q .1);
         } in
-        ap (longer at) (ih (place-from (suc at) n ∷ ls) shorter) ∙ sym (lines-longer at b rest other)
+        ap (longer at) (ih (span-from (suc at) n ∷ ls) shorter) ∙ sym (lines-longer at b rest other)
 
-    only-longer : place-from at (suc n) ∷ ls ≡ linesAt at (b ∷ rest)
+    only-longer : span-from at (suc n) ∷ ls ≡ linesAt at (b ∷ rest)
     only-longer = ⊎-elim only-last only-more (ended-last b rest)
 
-only : (text : List ℕ) (at : ℕ) (bytes : List ℕ) → drop at text ≡ bytes → (ls : List Place) → AreLines text at bytes ls → ls ≡ linesAt at bytes
+only : (text : List ℕ) (at : ℕ) (bytes : List ℕ) → drop at text ≡ bytes → (ls : List Span) → AreLines text at bytes ls → ls ≡ linesAt at bytes
 only text at [] e ls h = rw (lines-nil at) (joined-none text ls (h .whole))
 only text at (b ∷ rest) e [] h = absurd (nil≢cons (sym (ended-none (b ∷ rest) (h .whole))))
 only text at (b ∷ rest) e (l ∷ ls) h = go (l .start) (l .len) (h .in-order .0) h (only text (suc at) rest (next text at b rest e))
   where
-    go : (start len : ℕ) → start ≡ at → AreLines text at (b ∷ rest) (place-from start len ∷ ls)
-        → ((ms : List Place) → AreLines text (suc at) rest ms → ms ≡ linesAt (suc at) rest) → place-from start len ∷ ls ≡ linesAt at (b ∷ rest)
+    go : (start len : ℕ) → start ≡ at → AreLines text at (b ∷ rest) (span-from start len ∷ ls)
+        → ((ms : List Span) → AreLines text (suc at) rest ms → ms ≡ linesAt (suc at) rest) → span-from start len ∷ ls ≡ linesAt at (b ∷ rest)
     go start zero q k ih = rw q (only-newline text at b rest e ih ls (rw q at k))
     go start (suc n) q k ih = rw q (only-longer text at b rest e ih n ls (rw q at k))
 
-pub lines-only : (text : List ℕ) (ls : List Place) → AreLines text 0 text ls → ls ≡ lines text
+pub lines-only : (text : List ℕ) (ls : List Span) → AreLines text 0 text ls → ls ≡ lines text
 lines-only text ls h = only text 0 text refl ls h

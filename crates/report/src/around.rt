@@ -1,15 +1,16 @@
 // What may stand around the report: lines that are empty or start with `%`.
 ghost use mathlib.Core.Path.{_≡_};
+ghost use Rattle.tokens.specs.Place.{Stands};
 ghost use Rattle.report.specs.Around.{isIdle, OutOfPlace};
 use crate::line::has_line;
-use crate::line::next_line;
+use crate::line::line_behind;
 use crate::reader::line_from;
-use tokens::Place;
-use tokens::place_from;
+use tokens::place::Place;
+use tokens::place::with_len;
 
-// A line, or none.
+// A line; or none, and the text's end.
 pub enum Found {
-    Nothing,
+    End(Place),
     Line(Place),
 }
 
@@ -24,17 +25,18 @@ fn is_idle(line: &[u8]) -> bool
 }
 
 // The first line from `at` on that is neither empty nor starts with `%`. Behind the report such a line is out of place.
-pub fn out_of_place(text: &[u8], at: usize) -> Found
-    ensures { λ r. ⌜ OutOfPlace (now (text .entry)) at r ⌝ }
+pub fn out_of_place(text: &[u8], at: Place) -> Found
+    requires { ⌜ Stands (now text) at ⌝ }
+    ensures { λ r. ⌜ OutOfPlace (now (text .entry)) (at .start) r ⌝ }
 {
     let mut start = at;
-    while has_line(text, start) {
-        let line = line_from(text, start);
-        let len = line.len();
+    while has_line(text, start.start) {
+        let line = line_from(text, start.start);
+        let place = with_len(start, line.len());
         if !is_idle(line) {
-            return Found::Line(place_from(start, len));
+            return Found::Line(place);
         }
-        start = next_line(text, start + len);
+        start = line_behind(text, place);
     }
-    Found::Nothing
+    Found::End(with_len(start, 0))
 }

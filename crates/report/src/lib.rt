@@ -1,15 +1,18 @@
 // The solver's output by its lines: what may stand around the report, the report, the line of the facts, and the solver's code.
 ghost use mathlib.Core.Path.{_≡_};
+ghost use Rattle.tokens.specs.Place.{Stands};
 ghost use Rattle.report.specs.Lines.{linesFrom};
+ghost use Rattle.report.specs.Around.{OutOfPlace};
 ghost use Rattle.report.specs.Report.{refused, found, reported, Reported};
 use around::Found;
 use around::out_of_place;
 use line::has_line;
-use line::next_line;
+use line::line_behind;
 use reader::line_from;
-use tokens::NOWHERE;
-use tokens::Place;
-use tokens::place_from;
+use tokens::parts::part;
+use tokens::place::Place;
+use tokens::place::TEXT_START;
+use tokens::place::with_len;
 use word::Word;
 use word::starts_with;
 
@@ -28,7 +31,7 @@ pub struct Report {
     pub place: Place,
     pub word: Word,
     pub facts: Place,
-    pub next: usize,
+    pub next: Place,
 }
 
 fn refused(place: Place) -> Report
@@ -38,17 +41,17 @@ fn refused(place: Place) -> Report
         code: OUT_OF_PLACE,
         place,
         word: Word::Unknown,
-        facts: NOWHERE,
-        next: 0,
+        facts: TEXT_START,
+        next: TEXT_START,
     }
 }
 
-fn found(word: Word, facts: Place, next: usize) -> Report
+fn found(word: Word, facts: Place, next: Place) -> Report
     ensures { λ r. ⌜ r ≡ found word facts next ⌝ }
 {
     Report {
         code: 0,
-        place: NOWHERE,
+        place: TEXT_START,
         word,
         facts,
         next,
@@ -56,19 +59,36 @@ fn found(word: Word, facts: Place, next: usize) -> Report
 }
 
 // ANSWER, where the lines behind it begin at `at`: the first of them holds the facts.
-fn answer(output: &[u8], at: usize) -> Report
-    ensures { λ r. ⌜ r ≡ reported (now (output .entry)) Word.Answer (linesFrom (now (output .entry)) at) ⌝ }
+fn answer(output: &[u8], at: Place) -> Report
+    requires { ⌜ Stands (now output) at ⌝ }
+    ensures { λ r. ⌜ r ≡ reported (now (output .entry)) Word.Answer (linesFrom (now (output .entry)) (at .start)) ⌝ }
 {
-    if !has_line(output, at) {
-        return refused(place_from(output.len(), 0));
+    if !has_line(output, at.start) {
+        return refused(with_len(at, 0));
     }
-    let line = line_from(output, at);
-    let len = line.len();
-    found(
-        Word::Answer,
-        place_from(at, len),
-        next_line(output, at + len),
-    )
+    let line = line_from(output, at.start);
+    let place = with_len(at, line.len());
+    found(Word::Answer, place, line_behind(output, place))
+}
+
+// The report, by the first line that is neither empty nor starts with `%`; or refusal 2 at that line, and at the output's end where there is
+// no line behind ANSWER.
+fn report_of(output: &[u8], line: Place) -> Report
+    requires { ⌜ OutOfPlace (now output) 0 (Found.Line line) ⌝ }
+    ensures { λ r. ⌜ Reported (now (output .entry)) r ⌝ }
+{
+    let bytes = part(output, line);
+    let next = line_behind(output, line);
+    if starts_with(bytes, b"ANSWER") {
+        return answer(output, next);
+    }
+    if starts_with(bytes, b"INCONSISTENT") {
+        return found(Word::Inconsistent, TEXT_START, next);
+    }
+    if starts_with(bytes, b"UNKNOWN") {
+        return found(Word::Unknown, TEXT_START, next);
+    }
+    refused(line)
 }
 
 // The report, whose first line is the first that is neither empty nor starts with `%`; or refusal 2 at that line, and at the
@@ -76,21 +96,9 @@ fn answer(output: &[u8], at: usize) -> Report
 pub fn find_report(output: &[u8]) -> Report
     ensures { λ r. ⌜ Reported (now (output .entry)) r ⌝ }
 {
-    let Found::Line(line) = out_of_place(output, 0) else {
-        return refused(place_from(output.len(), 0));
-    };
-    let start = line.start;
-    let end = start + line.len;
-    let bytes = &output[start..end];
-    let next = next_line(output, end);
-    if starts_with(bytes, b"ANSWER") {
-        return answer(output, next);
+    let first = out_of_place(output, TEXT_START);
+    match first {
+        Found::End(end) => refused(end),
+        Found::Line(line) => report_of(output, line),
     }
-    if starts_with(bytes, b"INCONSISTENT") {
-        return found(Word::Inconsistent, NOWHERE, next);
-    }
-    if starts_with(bytes, b"UNKNOWN") {
-        return found(Word::Unknown, NOWHERE, next);
-    }
-    refused(line)
 }

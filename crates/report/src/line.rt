@@ -1,7 +1,12 @@
 // Lines of a text: whether one stands at a place, where it ends, its bytes, and where the next one begins.
 ghost use mathlib.Core.Path.{_≡_};
-ghost use Rattle.tokens.specs.Tokens.{part};
-ghost use Rattle.report.specs.Lines.{hasLine, lineEnd, nextLine, lineAt, behindLine};
+ghost use Prim.Native.Nat.{_+_};
+ghost use Rattle.tokens.specs.Place.{place-from};
+ghost use Rattle.tokens.specs.Tokens.{bytes-in};
+ghost use Rattle.report.specs.Lines.{hasLine, lineEnd, nextLine, lineAt, behindLine, WholeLine};
+use tokens::place::Place;
+use tokens::place::behind;
+use tokens::place::past;
 use tokens::run::Run;
 use tokens::run::run_end;
 
@@ -30,9 +35,22 @@ pub fn next_line(text: &[u8], end: usize) -> usize
     }
 }
 
+// Where the line behind one begins, with its line and column; at the text's end where the line has no newline.
+pub fn line_behind(text: &[u8], line: Place) -> Place
+    requires { ⌜ WholeLine (now text) line ⌝ }
+    ensures { λ r. ⌜ r ≡ place-from (now (text .entry)) (nextLine (now (text .entry)) (line .start + line .len)) 0 ⌝ }
+{
+    let end = past(line);
+    let byte = end.start;
+    if byte < text.len() {
+        return behind(end, text[byte]);
+    }
+    end
+}
+
 // The line that starts at `at`, without its newline; empty where there is none.
 pub fn line_at(text: &[u8], at: usize) -> &[u8]
-    ensures { λ r. ⌜ now r ≡ part (now (text .entry)) (lineAt (now (text .entry)) at) ⌝ }
+    ensures { λ r. ⌜ now r ≡ bytes-in (now (text .entry)) (lineAt (now (text .entry)) at) ⌝ }
 {
     if !has_line(text, at) {
         return &text[0..0];

@@ -1,7 +1,7 @@
 // A reader of a text's lines. It holds the lent text and its own place, and hands out one line after the other.
 // Its functions take it apart and leave the work to those on a slice and a number; `line_from` needs no reader of its caller.
 ghost use mathlib.Core.Path.{_≡_};
-ghost use Rattle.tokens.specs.Tokens.{part};
+ghost use Rattle.tokens.specs.Tokens.{bytes-in};
 ghost use Rattle.report.specs.Lines.{lineAt};
 ghost use Rattle.report.specs.Reader.{readerAt, hasNext, next, behind};
 use crate::line::behind_line;
@@ -29,7 +29,7 @@ pub fn has_next<'a>(lines: Lines<'a>) -> bool
 
 // The next line, a part of the lent text without its newline; empty where none is left.
 pub fn next<'a>(lines: Lines<'a>) -> &'a [u8]
-    ensures { λ r. ⌜ now r ≡ part (now (lines .entry .text)) (next (lines .entry)) ⌝ }
+    ensures { λ r. ⌜ now r ≡ bytes-in (now (lines .entry .text)) (next (lines .entry)) ⌝ }
 {
     line_at(lines.text, lines.at)
 }
@@ -47,7 +47,7 @@ pub fn behind<'a>(lines: Lines<'a>) -> Lines<'a>
 
 // The line that starts at `at`, as a reader that stands there hands it out.
 pub fn line_from<'a>(text: &'a [u8], at: usize) -> &'a [u8]
-    ensures { λ r. ⌜ now r ≡ part (now (text .entry)) (lineAt (now (text .entry)) at) ⌝ }
+    ensures { λ r. ⌜ now r ≡ bytes-in (now (text .entry)) (lineAt (now (text .entry)) at) ⌝ }
 {
     next(reader_at(text, at))
 }

@@ -1,9 +1,9 @@
 // The words that a report starts with, and the solver's code that goes with each.
 ghost use mathlib.Core.Path.{_≡_};
 ghost use Rattle.report.specs.Word.{startsWith, agrees};
-use tokens::parts::part;
+use tokens::parts::bytes_in;
 use tokens::parts::same_bytes;
-use tokens::place_from;
+use tokens::place::span_from;
 
 pub enum Word {
     Answer,
@@ -32,5 +32,5 @@ pub fn agrees(word: Word, code: u64) -> bool
 pub fn starts_with(line: &[u8], word: &[u8]) -> bool
     ensures { λ r. ⌜ r ≡ startsWith (now (word .entry)) (now (line .entry)) ⌝ }
 {
-    same_bytes(part(line, place_from(0, word.len())), word)
+    same_bytes(bytes_in(line, span_from(0, word.len())), word)
 }

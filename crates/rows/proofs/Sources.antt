@@ -8,9 +8,10 @@ use lib.Dec.{ltb}
 use lib.ListN.{length, take, drop, length-take, length-drop, drop-of-length-le}
 use lib.Seq.{take-nil, drop-nil, drop-drop}
 use borrow.Author.Tests.{ltb-true, ltb-false, lt-ltb, le-ltb}
-use Rattle.tokens.specs.declared.Place.{Place}
+use Rattle.tokens.specs.declared.place.Place.{Place}
+use Rattle.tokens.specs.declared.place.Span.{Span}
 use Rattle.tokens.specs.Tokens.{part}
-use Rattle.tokens.specs.Places.{place-from}
+use Rattle.tokens.specs.Places.{span-from}
 use Rattle.meaning.specs.Rules.{Bytes}
 use Rattle.names.specs.Texts.{bytes-at}
 use Rattle.names.specs.declared.Found.{Found}
@@ -45,20 +46,20 @@ starts-in n p ys h = go (ltb p (length ys)) refl
 -- ---- the source
 
 module _ (program output text : Bytes) (base : ℕ) (place : Place) (source : Source program output text base) (some : part text place ≡ [] → ⊥) where
-  abbrev from : Place
-  from = place-from base (length text)
+  abbrev from : Span
+  from = span-from base (length text)
 
   filled : part (bytes-at program output from) place ≡ [] → ⊥
   filled = subst (λ (b : Bytes). part b place ≡ [] → ⊥) source some
 
-  there : bytes-at program output (place-from (base + place .start) (length (part (bytes-at program output from) place))) ≡ part (bytes-at program output from) place
+  there : bytes-at program output (span-from (base + place .start) (length (part (bytes-at program output from) place))) ≡ part (bytes-at program output from) place
   unfolding bytes-at
   there = go (ltb base (length program)) refl filled
     where
       shifted : (whole : Bytes) (s : ℕ) → take (length (take (place .len) (drop (place .start) (take (length text) (drop s whole))))) (drop (s + place .start) whole) ≡ take (place .len) (drop (place .start) (take (length text) (drop s whole)))
       shifted whole s = rw (← (drop-drop (place .start) s whole)) (own-part (place .len) (place .start) (length text) (drop s whole))
 
-      go : (t : Bool) → ltb base (length program) ≡ t → (part (bytes-at program output (place-from base (length text))) place ≡ [] → ⊥) → bytes-at program output (place-from (base + place .start) (length (part (bytes-at program output (place-from base (length text))) place))) ≡ part (bytes-at program output (place-from base (length text))) place
+      go : (t : Bool) → ltb base (length program) ≡ t → (part (bytes-at program output (span-from base (length text))) place ≡ [] → ⊥) → bytes-at program output (span-from (base + place .start) (length (part (bytes-at program output (span-from base (length text))) place))) ≡ part (bytes-at program output (span-from base (length text))) place
       go true e f =
           let h : part (take (length text) (drop base program)) place ≡ [] → ⊥ = rw e at f in
           let k = starts-in (place .len) (place .start) _ h in
@@ -71,10 +72,10 @@ module _ (program output text : Bytes) (base : ℕ) (place : Place) (source : So
           rw (e, le-ltb _ _ l, q) (shifted output (base - length program))
 
   -- the name stands in the two texts where its place in the text says
-  pub in-source : (name : Bytes) → name ≡ part text place → name ≡ bytes-at program output (place-from (base + place .start) (length name))
+  pub in-source : (name : Bytes) → name ≡ part text place → name ≡ bytes-at program output (span-from (base + place .start) (length name))
   in-source name n =
       let e : name ≡ part (bytes-at program output from) place = n ∙ ap (λ (b : Bytes). part b place) source in
-      e ∙ sym there ∙ ap (λ (b : Bytes). bytes-at program output (place-from (base + place .start) (length b))) (sym e)
+      e ∙ sym there ∙ ap (λ (b : Bytes). bytes-at program output (span-from (base + place .start) (length b))) (sym e)
 
   -- so the sum fits
   pub source-fits : (names : List ℕ) → Table program output names → base + place .start < 262_144

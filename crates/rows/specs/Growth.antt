@@ -3,7 +3,7 @@ use mathlib.Core.Path.{_≡_}
 use mathlib.Core.List.{List, _++_}
 use Prim.Native.Nat.{ℕ, _+_, _≤_}
 use lib.ListN.{length}
-use Rattle.tokens.specs.Places.{place-from}
+use Rattle.tokens.specs.Places.{span-from}
 use Rattle.meaning.specs.Rules.{Bytes}
 use Rattle.names.specs.Texts.{bytes-at}
 use Rattle.names.specs.Table.{capacity, names-of, Table}
@@ -15,7 +15,7 @@ pub record Room (program output : Bytes) (names : List ℕ) (n : ℕ) : Type 0 w
 
 -- the text stands in the two texts from `base` on
 abbrev pub Source : Bytes → Bytes → Bytes → ℕ → Type 0
-Source program output text base = text ≡ bytes-at program output (place-from base (length text))
+Source program output text base = text ≡ bytes-at program output (span-from base (length text))
 
 -- the names of before, and at most n behind them
 pub record Grows (program output : Bytes) (names : List ℕ) (n : ℕ) (names′ : List ℕ) : Type 0 where

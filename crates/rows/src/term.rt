@@ -11,8 +11,8 @@ ghost use Rattle.rows.specs.Growth.{Room, Source};
 use codes::FIRST_NUMBER;
 use names::Found;
 use names::intern;
-use tokens::Place;
 use tokens::parts::part;
+use tokens::place::Place;
 
 // The code of 0.
 const ZERO: u64 = FIRST_NUMBER + 1_000_000_000;

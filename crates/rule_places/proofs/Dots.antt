@@ -1,6 +1,6 @@
 -- Laws of dots: where the first one ends, and the tokens behind it.
 use mathlib.Core.Path.{_≡_, refl, sym as inv, ap, _∙_}
-use mathlib.Core.Bool.{Bool, true, false, not}
+use mathlib.Core.Bool.{Bool, true, false}
 use mathlib.Core.List.{List, [], _∷_}
 use Prim.Native.Nat.{ℕ, zero, suc, _+_, _-_, _≤_, _<_}
 use native.Mathlib.Omega.{arith}
@@ -8,32 +8,22 @@ use native.Mathlib.Numerals.{add-one}
 use lib.Dec.{eqb}
 use lib.ListN.{length}
 use borrow.Author.Tests.{eqb-true, eqb-false, eq-eqb, ne-eqb}
-use Rattle.tokens.specs.declared.Place.{Place}
-use Rattle.tokens.specs.Kind.{isEnd, kindNumber}
-use Rattle.tokens.specs.Token.{nextToken}
-use Rattle.tokens.proofs.Next.{onward}
+use Rattle.tokens.specs.declared.place.Place.{Place}
+use Rattle.tokens.specs.Place.{with-len}
 use Rattle.reading.specs.Reading.{Placed}
 use Rattle.meaning.specs.Rules.{Bytes}
 use Rattle.grammar.specs.Tokens.{Token}
 use Rattle.syntax.specs.declared.token.TokenRead.{TokenRead}
-use Rattle.syntax.specs.Text.{placed-from, end-of, tokenRead}
+use Rattle.syntax.specs.Text.{placed-from, end-of, tokenRead, next-of}
 use Rattle.syntax.specs.Ahead.{ends-rule}
-use Rattle.syntax.proofs.Tokens.{within, token-here, number-here, placed-more, placed-end, end-here}
-use Rattle.rule_places.specs.Sentences.{behind-dots, dot-end, between, to-dot, sentence}
+use Rattle.syntax.proofs.Tokens.{within, forward, token-here, number-here, placed-more, placed-end, end-here}
+use Rattle.rule_places.specs.Sentences.{behind-dots, dot-end, to-dot, sentence}
 
 -- where the first dot from a place on ends
 abbrev ends : Bool → Bytes → ℕ → ℕ
 ends ground text at = dot-end (end-of text) (placed-from ground text at)
 
 module _ (ground : Bool) (text : Bytes) (at : ℕ) (t : TokenRead) (et : t ≡ tokenRead ground text at) where
-  reaches : t .next ≡ t .place .start + t .place .len
-  reaches = rw et
-
-  pub further : (t .kind ≡ 20 → ⊥) → at < t .next
-  further h =
-      let e : isEnd (nextToken (not ground) text at .kind) ≡ false = ne-eqb (kindNumber (nextToken (not ground) text at .kind)) 20 (λ q. h (rw et q)) in
-      rw et (onward (not ground) text at e)
-
   abbrev here : Placed Place Token
   here = record { token = token-here ground text at t et; place = t .place }
 
@@ -55,21 +45,21 @@ module _ (ground : Bool) (text : Bytes) (at : ℕ) (t : TokenRead) (et : t ≡ t
     not-end : t .kind ≡ 20 → ⊥
     not-end q = omega arith
 
-    pub dot-here : ends ground text at ≡ t .next
+    pub dot-here : ends ground text at ≡ next-of t
     unfolding dot-end
-    dot-here = rw (placed-more ground text at t et not-end, is-dot not-end, eq-eqb (t .kind) 8 e) (inv reaches)
+    dot-here = rw (placed-more ground text at t et not-end, is-dot not-end, eq-eqb (t .kind) 8 e)
 
-    behind-here : behind-dots 1 (placed-from ground text at) ≡ placed-from ground text (t .next)
+    behind-here : behind-dots 1 (placed-from ground text at) ≡ placed-from ground text (next-of t)
     unfolding behind-dots
     behind-here = rw (placed-more ground text at t et not-end, is-dot not-end, eq-eqb (t .kind) 8 e)
 
   -- another token
   module _ (n : t .kind ≡ 20 → ⊥) (e : t .kind ≡ 8 → ⊥) where
-    pub dot-later : ends ground text at ≡ ends ground text (t .next)
+    pub dot-later : ends ground text at ≡ ends ground text (next-of t)
     unfolding dot-end
     dot-later = rw (placed-more ground text at t et n, is-dot n, ne-eqb (t .kind) 8 e)
 
-    behind-later : behind-dots 1 (placed-from ground text at) ≡ behind-dots 1 (placed-from ground text (t .next))
+    behind-later : behind-dots 1 (placed-from ground text at) ≡ behind-dots 1 (placed-from ground text (next-of t))
     unfolding behind-dots
     behind-later = rw (placed-more ground text at t et n, is-dot n, ne-eqb (t .kind) 8 e)
 
@@ -78,17 +68,17 @@ module _ (ground : Bool) (text : Bytes) where
   abbrev token : ℕ → TokenRead
   token at = tokenRead ground text at
 
-  module _ (P : ℕ → Type 0) (at-end : (at : ℕ) → token at .kind ≡ 20 → P at) (at-dot : (at : ℕ) → token at .kind ≡ 8 → P at) (at-other : (at : ℕ) → (token at .kind ≡ 20 → ⊥) → (token at .kind ≡ 8 → ⊥) → P (token at .next) → P at) where
+  module _ (P : ℕ → Type 0) (at-end : (at : ℕ) → token at .kind ≡ 20 → P at) (at-dot : (at : ℕ) → token at .kind ≡ 8 → P at) (at-other : (at : ℕ) → (token at .kind ≡ 20 → ⊥) → (token at .kind ≡ 8 → ⊥) → P (next-of (token at)) → P at) where
     up-to : (most at : ℕ) → length text - at < most → P at
     up-to zero at h = absurd (omega arith)
-    up-to (suc most) at h = go (eqb (token at .kind) 20) refl (eqb (token at .kind) 8) refl (up-to most (token at .next))
+    up-to (suc most) at h = go (eqb (token at .kind) 20) refl (eqb (token at .kind) 8) refl (up-to most (next-of (token at)))
       where
-        go : (a : Bool) → eqb (token at .kind) 20 ≡ a → (b : Bool) → eqb (token at .kind) 8 ≡ b → (length text - token at .next < most → P (token at .next)) → P at
+        go : (a : Bool) → eqb (token at .kind) 20 ≡ a → (b : Bool) → eqb (token at .kind) 8 ≡ b → (length text - next-of (token at) < most → P (next-of (token at))) → P at
         go true e b f ih = at-end at (eqb-true (token at .kind) 20 e)
         go false e true f ih = at-dot at (eqb-true (token at .kind) 8 f)
         go false e false f ih =
             let n = eqb-false (token at .kind) 20 e in
-            let o = further ground text at (token at) refl n in
+            let o = forward ground text at (token at) refl n in
             let w = within ground text at (token at) refl in
             at-other at n (eqb-false (token at .kind) 8 f) (ih (omega arith))
 
@@ -101,11 +91,20 @@ module _ (ground : Bool) (text : Bytes) where
       by-tokens
       (λ (at : ℕ). at ≤ length text → at ≤ ends ground text at)
       (λ at e k. rw (no-dot ground text at (token at) refl e) k)
-      (λ at e k. let o = further ground text at (token at) refl (λ q. omega arith) in rw (dot-here ground text at (token at) refl e) (omega arith))
+      (λ at e k. let o = forward ground text at (token at) refl (λ q. omega arith) in rw (dot-here ground text at (token at) refl e) (omega arith))
       (λ at n e h k.
-      let o = further ground text at (token at) refl n in
+      let o = forward ground text at (token at) refl n in
       let b = h (within ground text at (token at) refl) in
       rw (dot-later ground text at (token at) refl n e) (omega arith))
+
+  -- and inside the text
+  pub dot-inside : (at : ℕ) → ends ground text at ≤ length text
+  dot-inside =
+      by-tokens
+      (λ (at : ℕ). ends ground text at ≤ length text)
+      (λ at e. rw (no-dot ground text at (token at) refl e) (omega arith))
+      (λ at e. rw (dot-here ground text at (token at) refl e) (within ground text at (token at) refl))
+      (λ at n e h. rw (dot-later ground text at (token at) refl n e) h)
 
   past-end : placed-from ground text (length text) ≡ []
   past-end = go (eqb (token (length text) .kind) 20) refl
@@ -113,7 +112,7 @@ module _ (ground : Bool) (text : Bytes) where
       go : (b : Bool) → eqb (token (length text) .kind) 20 ≡ b → placed-from ground text (length text) ≡ []
       go true e = placed-end ground text (length text) (token (length text)) refl (eqb-true _ 20 e)
       go false e =
-          let o = further ground text (length text) (token (length text)) refl (eqb-false _ 20 e) in
+          let o = forward ground text (length text) (token (length text)) refl (eqb-false _ 20 e) in
           let w = within ground text (length text) (token (length text)) refl in
           absurd (omega arith)
 
@@ -160,6 +159,11 @@ module _ (ground : Bool) (text : Bytes) where
   pub reached-on : (k at : ℕ) → Reached k at → Reached (k + 1) (ends ground text at)
   reached-on k at r = record { rest = rw (add-one k) (behind-last k (placed-from ground text 0) ∙ ap (behind-dots 1) (r .rest) ∙ behind-one ground text at) }
 
+  -- there is such a place for every k
+  pub reached : (k : ℕ) → (at : ℕ) × Reached k at
+  reached zero = (0, reached-start)
+  reached (suc k) = let r = reached k in (ends ground text (r .0), rw (← (add-one k)) (reached-on k (r .0) (r .1)))
+
   -- rule k begins there
   pub reached-sentence : (k at : ℕ) → Reached k at → to-dot (end-of text) (placed-from ground text at) ≡ sentence ground text k
   unfolding sentence
@@ -171,9 +175,9 @@ module _ (ground : Bool) (text : Bytes) where
     start-before = go (eqb (t .kind) 8) refl
       where
         go : (b : Bool) → eqb (t .kind) 8 ≡ b → t .place .start ≤ ends ground text at
-        go true e = rw (dot-here ground text at t et (eqb-true (t .kind) 8 e)) (omega (arith, reaches ground text at t et))
-        go false e = rw (dot-later ground text at t et n (eqb-false (t .kind) 8 e)) (omega (arith, reaches ground text at t et, dot-behind ground text (t .next) (within ground text at t et)))
+        go true e = rw (dot-here ground text at t et (eqb-true (t .kind) 8 e)) (omega arith)
+        go false e = rw (dot-later ground text at t et n (eqb-false (t .kind) 8 e)) (omega (arith, dot-behind ground text (next-of t) (within ground text at t et)))
 
-    pub first-to-dot : to-dot (end-of text) (placed-from ground text at) ≡ between (t .place .start) (ends ground text at)
+    pub first-to-dot : to-dot (end-of text) (placed-from ground text at) ≡ with-len (t .place) (ends ground text at - t .place .start)
     unfolding to-dot
     first-to-dot = rw (placed-more ground text at t et n)

@@ -2,8 +2,8 @@
 use mathlib.Core.Bool.{Bool, cond}
 use mathlib.Core.List.{List, [], _∷_}
 use Prim.Native.Nat.{ℕ, zero, suc, _+_, _-_}
-use Rattle.tokens.specs.declared.Place.{Place}
-use Rattle.tokens.specs.Places.{place-from}
+use Rattle.tokens.specs.declared.place.Place.{Place}
+use Rattle.tokens.specs.Place.{with-len}
 use Rattle.reading.specs.Reading.{Placed}
 use Rattle.meaning.specs.Rules.{Bytes}
 use Rattle.grammar.specs.Tokens.{Token}
@@ -21,14 +21,10 @@ unfoldable pub dot-end : Place → List (Placed Place Token) → ℕ
 dot-end end [] = end .start
 dot-end end (t ∷ ts) = cond (ends-rule (t .token)) (t .place .start + t .place .len) (dot-end end ts)
 
--- from where something starts to where it ends
-abbrev pub between : ℕ → ℕ → Place
-between start end = place-from start (end - start)
-
 -- from the first token to the first dot; the end where there is no token
 unfoldable pub to-dot : Place → List (Placed Place Token) → Place
 to-dot end [] = end
-to-dot end (t ∷ ts) = between (t .place .start) (dot-end end (t ∷ ts))
+to-dot end (t ∷ ts) = with-len (t .place) (dot-end end (t ∷ ts) - t .place .start)
 
 -- rule k of a text, or fact k of a facts line, counted from 0
 unfoldable pub sentence : Bool → Bytes → ℕ → Place

@@ -7,8 +7,9 @@ use native.Mathlib.Omega.{arith}
 use lib.Dec.{eqb, ltb}
 use lib.ListN.{getD}
 use borrow.Author.Tests.{eqb-true, eqb-false, ltb-true, ltb-false}
-use Rattle.tokens.specs.declared.Place.{Place}
-use Rattle.tokens.specs.Places.{nowhere, place-in, places-in}
+use Rattle.tokens.specs.declared.place.Place.{Place}
+use Rattle.tokens.specs.Place.{text-start}
+use Rattle.tokens.specs.Places.{place-in, places-in}
 use Rattle.tokens.proofs.PlaceTables.{places-length, place-among}
 use Rattle.rulesafety.specs.declared.unbound.Unbound.{Unbound}
 use Rattle.rulesafety.specs.Unbound.{no-unbound, FirstUnbound, found, all-bound}
@@ -31,7 +32,7 @@ module _ (B : ℕ → Bool) (n : ℕ) (all : AllBelow B n) where
     pub unbound-here : n < count → B n ≡ false → (p : Place) → p ≡ place-in variables n → FirstUnbound B (places-in variables count) (record { found = true; place = p })
     unbound-here h u p e =
         let l = places-length variables count in
-        found n (omega arith) u all (rw (place-among variables count n nowhere h, e))
+        found n (omega arith) u all (rw (place-among variables count n text-start h, e))
 
     pub none-unbound : count ≤ n → FirstUnbound B (places-in variables count) no-unbound
     none-unbound h = all-bound (λ x k. all x (let l = places-length variables count in omega arith)) refl
@@ -39,7 +40,7 @@ module _ (B : ℕ → Bool) (n : ℕ) (all : AllBelow B n) where
 -- ---- there is one answer
 
 abbrev answer : List Place → ℕ → Unbound
-answer firsts x = record { found = true; place = getD firsts x nowhere }
+answer firsts x = record { found = true; place = getD firsts x text-start }
 
 pub first-unbound-unique : (B : ℕ → Bool) (firsts : List Place) (r s : Unbound) → FirstUnbound B firsts r → FirstUnbound B firsts s → r ≡ s
 first-unbound-unique B firsts r s (found x h u all p) (found y k v most q) = p ∙ ap (answer firsts) (same (ltb x y) refl (ltb y x) refl) ∙ sym q

@@ -3,8 +3,8 @@ ghost use Rattle.tokens.specs.Places.{places-in};
 ghost use Rattle.rulesafety.specs.Bound.{bitsOf};
 ghost use Rattle.rulesafety.specs.Unbound.{Numbered, FirstUnbound};
 use crate::bound::Bound;
-use tokens::NOWHERE;
-use tokens::Place;
+use tokens::place::Place;
+use tokens::place::TEXT_START;
 use tokens::places::place_in;
 
 // The first variable that is not bound, at its first occurrence; or none was found, and the place is empty.
@@ -16,7 +16,7 @@ pub struct Unbound {
 // None was found.
 pub const NO_UNBOUND: Unbound = Unbound {
     found: false,
-    place: NOWHERE,
+    place: TEXT_START,
 };
 
 // The variable with the least number that is not bound, of `count`. `variables` has where each of them first stands, by its number.

@@ -7,6 +7,7 @@ use mathlib.Core.List.{List, [], _∷_, _++_, map, head-eq-of-cons-eq, tail-eq-o
 use Prim.Native.Nat.{ℕ}
 use native.Mathlib.Omega.{arith}
 use lib.ListN.{length, drop}
+use Rattle.tokens.specs.Place.{newlines, since, line-of, column-of}
 use Rattle.tokens.specs.Class.{classOf}
 use Rattle.tokens.specs.Run.{isBlank, prefixLen}
 use Rattle.tokens.specs.Gap.{startsComment, gap}
@@ -71,7 +72,7 @@ abbrev Says : Example → meant.Example → Type 0
 Says e m = _≡_ {A = List ℕ → Result} (λ places. result places (settles (rule-part (e .program)) places (m .outcome))) (λ places. record { answer = e .answer; places = e .rounds ++ drop (length (e .rounds)) places })
 
 say : Each Says examples meant.examples
-unfolding read-opened token-number sign-number comparison-number behind-dots dot-end to-dot sentence positions says result settles
+unfolding read-opened token-number sign-number comparison-number behind-dots dot-end to-dot sentence positions says result settles newlines since line-of column-of
 say = (refl, (refl, (refl, (refl, (refl, (refl, (refl, (refl, (refl, (refl, (refl, (refl, tt))))))))))))
 
 -- ---- so each of the twelve holds

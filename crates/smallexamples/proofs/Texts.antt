@@ -9,7 +9,7 @@ use native.Mathlib.Omega.{arith}
 use lib.Dec.{eqb, leb}
 use lib.ListN.{length}
 use borrow.Author.Tests.{leb-true}
-use Rattle.tokens.specs.declared.Place.{Place}
+use Rattle.tokens.specs.declared.place.Place.{Place}
 use Rattle.tokens.specs.Sizes.{most-text}
 use Rattle.tokens.specs.Tokens.{part}
 use Rattle.reading.specs.Reading.{Answer as Reading, tree, refused}
@@ -33,7 +33,7 @@ use Rattle.stages.specs.Stage.{Outcome, on, stop, stops, goes, given, passed, w
 use Rattle.report.specs.declared.word.Word.{Word}
 use Rattle.report.specs.declared.word.Word.the-variants as words
 use Rattle.report.specs.declared.around.Found.{Found}
-use Rattle.report.specs.declared.around.Found.the-variants.{Nothing, Line}
+use Rattle.report.specs.declared.around.Found.the-variants.{End, Line}
 use Rattle.report.specs.declared.Report.{Report}
 use Rattle.report.specs.Around.{OutOfPlace}
 use Rattle.report.specs.Report.{found, Reported, missing, stray, says}
@@ -115,12 +115,12 @@ facts-reported text r (says line behind f words.Inconsistent s) h = absurd (fals
 facts-reported text r (says line behind f words.Unknown s) h = absurd (false≢true h)
 
 unfoldable pub is-nothing : Found → Bool
-is-nothing Nothing = true
+is-nothing (End end) = true
 is-nothing (Line line) = false
 
-nothing-found : (text : Bytes) (at : ℕ) (f : Found) → OutOfPlace text at f → is-nothing f ≡ true → OutOfPlace text at Nothing
+nothing-found : (text : Bytes) (at : ℕ) (f : Found) → OutOfPlace text at f → is-nothing f ≡ true → (end : Place) × OutOfPlace text at (End end)
 unfolding is-nothing
-nothing-found text at Nothing o h = o
+nothing-found text at (End end) o h = (end, o)
 nothing-found text at (Line line) o h = absurd (false≢true h)
 
 -- the facts of a line, where it is read and no fact clashes with an earlier one
@@ -131,7 +131,7 @@ line-facts line = then (tree-in true line) (λ fs. when (apart (facts-for fs)) (
 unfoldable pub output-facts : Bytes → Option (List (Fact Value))
 output-facts text =
     let r = report-of text .0 in
-    when (fits text && (reports-facts r && is-nothing (out-of-place-of text (r .next) .0))) (line-facts (part text (r .facts)))
+    when (fits text && (reports-facts r && is-nothing (out-of-place-of text (r .next .start) .0))) (line-facts (part text (r .facts)))
 
 pub record ReportedAs (text : Bytes) (I : List (Fact Value)) : Type 0 where
   pub line : Place
@@ -145,20 +145,20 @@ unfolding output-facts line-facts fits
 output-taken text I h =
     let r = report-of text .0 in
     let line = r .facts in
-    let o = out-of-place-of text (r .next) in
+    let o = out-of-place-of text (r .next .start) in
     let tests = when-some (fits text && (reports-facts r && is-nothing (o .0))) (line-facts (part text line)) I h in
     let size = leb-true (length text) most-text (and-left (fits text) (reports-facts r && is-nothing (o .0)) (tests .0)) in
     let report = and-right (fits text) (reports-facts r && is-nothing (o .0)) (tests .0) in
     let reads = then-some (tree-in true (part text line)) _ I (tests .1) in
     let clear = when-some (apart (facts-for (reads .0))) _ I (reads .2) in
     let opening = facts-reported text r (report-of text .1) (and-left (reports-facts r) (is-nothing (o .0)) report) in
-    let closing = nothing-found text (r .next) (o .0) (o .1) (and-right (reports-facts r) (is-nothing (o .0)) report) in
+    let closing = nothing-found text (r .next .start) (o .0) (o .1) (and-right (reports-facts r) (is-nothing (o .0)) report) in
     let fs = reads .0 in
     let x = on (facts line fs) in
     record {
       line = line;
       candidate = fs;
-      stage = goes tt x (passed (λ k. omega (arith, k, size))) (goes (record { word = words.Answer; line = line; next = r .next }) x (opens _ opening) (goes fs x (Reads.read fs (read-as true (part text line) fs (reads .1))) (closes closing)));
+      stage = goes tt x (passed (λ k. omega (arith, k, size))) (goes (record { word = words.Answer; line = line; next = r .next }) x (opens _ opening) (goes fs x (Reads.read fs (read-as true (part text line) fs (reads .1))) (closes (closing .0) (closing .1))));
       distinct = unclashing (facts-for fs) (clear .0);
       facts-are = some-inj (clear .1);
     }

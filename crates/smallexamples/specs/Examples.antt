@@ -3,7 +3,6 @@ use Prim.Native.Nat.{ℕ, _≤_, _<_}
 use Prim.Native.String.{String}
 use mathlib.Core.List.{List, [], _∷_, _++_}
 use lib.ListN.{length, drop}
-use Rattle.tokens.specs.Places.{place-from}
 use Rattle.meaning.specs.Rules.{Bytes}
 use Rattle.meaning.specs.Ascii.{ascii}
 use Rattle.stages.specs.Parts.{program, output, in-text, start-of}
@@ -58,8 +57,8 @@ examples =
     ∷ example "a:-not a." "a." 1 (smaller []) []
     -- T9
     ∷ example "a.:-a." "a." 1 (unsatisfied 2 (1 ∷ [])) []
-    -- T10, T11, T12, which hands back `p(X):-q(Y),X=Y+1.`
+    -- T10, T11, T12, which hands back `p(X):-q(Y),X=Y+1.`, at line 1 and column 1
     ∷ example "p(X):-q(Y),X=Y+1.q(a)." "q(a)." 1 (accepted 1 1) (1 ∷ [])
     ∷ example "p(X):-q(Y),X=Y+1.q(999999999)." "q(999999999). p(1000000000)." 2 (accepted 2 2) (1 ∷ 2 ∷ [])
-    ∷ example "p(X):-q(Y),X=Y+1.q(1000000000)." "q(1000000000)." 1 (refused 8 (in-text program (place-from 0 17))) []
+    ∷ example "p(X):-q(Y),X=Y+1.q(1000000000)." "q(1000000000)." 1 (refused 8 (in-text program (record { start = 0; len = 17; line = 1; column = 1 }))) []
     ∷ []

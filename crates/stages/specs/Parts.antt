@@ -1,7 +1,6 @@
 -- The two lent texts, and a part of either.
-use Prim.Native.Nat.{ℕ}
-use Rattle.tokens.specs.declared.Place.{Place}
-use Rattle.tokens.specs.Places.{place-from}
+use Rattle.tokens.specs.declared.place.Place.{Place}
+use Rattle.tokens.specs.Place.{text-start}
 
 pub data Text : Type 0 where
   program output : Text
@@ -10,13 +9,15 @@ pub record Part : Type 0 where
   pub text : Text
   pub place : Place
 
+-- of two things that belong to the two texts, the one of this text
+abbrev pub of-text : {A : Type 0} → A → A → Text → A
+of-text p o program = p
+of-text p o output = o
+
 -- a part of a text, by its place there
 abbrev pub in-text : Text → Place → Part
 in-text x p = record { text = x; place = p }
 
--- empty, at a byte of a text
-abbrev pub empty-at : Text → ℕ → Part
-empty-at x start = in-text x (place-from start 0)
-
+-- empty, at a text's start
 abbrev pub start-of : Text → Part
-start-of x = empty-at x 0
+start-of x = in-text x text-start

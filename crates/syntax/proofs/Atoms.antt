@@ -6,11 +6,11 @@ use mathlib.Core.List.{List, [], _++_}
 use Prim.Native.Nat.{ℕ, _≤_}
 use native.Mathlib.Omega.{arith}
 use lib.Dec.{eqb, leb}
-use lib.ListN.{length}
 use borrow.Author.Tests.{ne-eqb, eqb-true, eqb-false, leb-true}
-use Rattle.tokens.specs.declared.Place.{Place}
+use Rattle.tokens.specs.declared.place.Place.{Place}
 use Rattle.tokens.specs.Tokens.{part}
 use Rattle.reading.specs.Reading.{refused}
+use Rattle.tokens.specs.Place.{Stands}
 use Rattle.meaning.specs.Rules.{Bytes, Term, Atom}
 use Rattle.meaning.specs.Values.{Value}
 use Rattle.grammar.specs.Tokens.{Token, opening}
@@ -26,7 +26,7 @@ use Rattle.grammar.proofs.Numbers.{fire-number, fire-by-number, try-number}
 use Rattle.grammar.proofs.Variables.{met-append, met-signed}
 use Rattle.syntax.specs.declared.token.Progress.{Progress}
 use Rattle.syntax.specs.declared.token.TokenRead.{TokenRead}
-use Rattle.syntax.specs.Text.{token-of, tokenRead}
+use Rattle.syntax.specs.Text.{token-of, tokenRead, next-of}
 use Rattle.syntax.specs.Variables.{Fits}
 use Rattle.syntax.specs.Ahead.{wants, from}
 use Rattle.syntax.specs.Fills.{Production, going, halted, Fills, read, stopped}
@@ -58,24 +58,25 @@ not-compared {ground} a s b ms u k e h = go (leb 13 k) refl (leb k 19) refl a s 
     go true p false q a s h = other true p false q (λ x y. true≢false (inv y)) a s
     go false p y q a s h = other false p y q (λ x y. true≢false (inv x)) a s
 
-module _ (ground : Bool) (text : Bytes) (at : ℕ) (t : TokenRead) (et : t ≡ tokenRead ground text at) (negative : Bool) (b : Bytes) (v : List Place) where
+module _ (ground : Bool) (text : Bytes) (at : Place) (stands : Stands text at) (t : TokenRead) (et : t ≡ tokenRead ground text (at .start)) (negative : Bool) (b : Bytes) (v : List Place) where
   -- no parenthesis: the atom ends with its name
-  pub named-bare : {S : Atom (Term Value) → Type 0} → at ≤ length text → Fits v → (t .kind ≡ 5 → ⊥) → S (record { negative = negative; name = b; arguments = [] }) → Fills (named-in ground text at negative b) false text at v (going at) v S
+  pub named-bare : {S : Atom (Term Value) → Type 0} → Fits v → (t .kind ≡ 5 → ⊥) → S (record { negative = negative; name = b; arguments = [] }) → Fills (named-in ground text (at .start) negative b) false text (at .start) v (going at) v S
   unfolding moves try either fire-number when symbol-number finished met spell-arguments atom-for arguments-for
-  named-bare hat fits ne s = read refl (omega arith) hat refl fits bare s refl (λ h. same-token ground text at t et (wants (named (h .context) negative b)) (wants (closed (h .context) (atom negative b bare))) v (taken h) refl)
+  named-bare fits ne s = read refl (omega arith) stands refl fits bare s refl (λ h. same-token ground text (at .start) t et (wants (named (h .context) negative b)) (wants (closed (h .context) (atom negative b bare))) v (taken h) refl)
     where
-      taken : (h : NamedPlace ground text at negative b) → (t .kind ≡ 20 → ⊥) → try (moves (named (h .context) negative b)) (token-here ground text at t et) ≡ try (moves (closed (h .context) (atom negative b bare))) (token-here ground text at t et)
-      taken h z = rw (fire-by-number (on inside opening (opened (h .context) negative b)) (token-here ground text at t et), number-here ground text at t et z, ne-eqb (t .kind) 5 ne) (not-compared (h .context) negative b (after-atom (h .context) (atom negative b bare)) (token-here ground text at t et) (t .kind) (number-here ground text at t et z) (rw et (h .alone)))
+      taken : (h : NamedPlace ground text (at .start) negative b) → (t .kind ≡ 20 → ⊥) → try (moves (named (h .context) negative b)) (token-here ground text (at .start) t et) ≡ try (moves (closed (h .context) (atom negative b bare))) (token-here ground text (at .start) t et)
+      taken h z = rw (fire-by-number (on inside opening (opened (h .context) negative b)) (token-here ground text (at .start) t et), number-here ground text (at .start) t et z, ne-eqb (t .kind) 5 ne) (not-compared (h .context) negative b (after-atom (h .context) (atom negative b bare)) (token-here ground text (at .start) t et) (t .kind) (number-here ground text (at .start) t et z) (rw et (h .alone)))
 
+module _ (ground : Bool) (text : Bytes) (at : ℕ) (t : TokenRead) (et : t ≡ tokenRead ground text at) (negative : Bool) (b : Bytes) (v : List Place) where
   -- with arguments, behind the parenthesis
-  pub named-opens : {r : Progress} {v′ : List Place} {S : List (Term Value) → Type 0} {T : Atom (Term Value) → Type 0} → t .kind ≡ 5 → ((terms : List (Term Value)) → at ≤ t .next → t .next ≤ r .next → S terms → T (record { negative = negative; name = b; arguments = terms })) → Fills (arguments-in ground) false text (t .next) v r v′ S → Fills (named-in ground text at negative b) false text at v r v′ T
+  pub named-opens : {r : Progress} {v′ : List Place} {S : List (Term Value) → Type 0} {T : Atom (Term Value) → Type 0} → t .kind ≡ 5 → ((terms : List (Term Value)) → at ≤ next-of t → next-of t ≤ r .place .start → S terms → T (record { negative = negative; name = b; arguments = terms })) → Fills (arguments-in ground) false text (next-of t) v r v′ S → Fills (named-in ground text at negative b) false text at v r v′ T
   unfolding atom-for moves try fire either when token-of symbol-number token-number too-big too-long too-many too-many-variables is-underscore meet meet-symbol
   named-opens {T = T} ek stands g = fills-as (named-in ground text at negative b) false at (λ x. x) (λ h. record { context = h .context; negative = negative; name = b }) (λ o. o) open-on (λ h x. refl) (λ vs x. refl) T ahead (λ vs x l s. stands _ ahead l s) g
     where
-      ahead : at ≤ t .next
+      ahead : at ≤ next-of t
       ahead = let l = forward ground text at t et (λ q. let z : _≡_ {A = ℕ} 5 20 = inv ek ∙ q in omega arith) in omega arith
 
-      open-on : (h : NamedPlace ground text at negative b) → from ground text (wants (named (h .context) negative b)) v at ≡ from ground text (wants (opened (h .context) negative b)) v (t .next)
+      open-on : (h : NamedPlace ground text at negative b) → from ground text (wants (named (h .context) negative b)) v at ≡ from ground text (wants (opened (h .context) negative b)) v (next-of t)
       open-on h = on-kind ground text at t et 5 ek (λ z. omega arith) (wants (named (h .context) negative b)) v v _ refl (fault-none _ _ _ _ refl refl refl refl) (meets-none text (token-by 5 (part text (t .place))) (t .place) v refl refl)
 
 -- ---- from a state on, a name and what follows it
@@ -85,7 +86,7 @@ module _ {ground : Bool} {H : Type 0} (pre : H → State ground) (context : H �
   unfolding step token-of too-big too-long
   word-stops n = (omega (arith, word-four (t .place .len) over code ec n), λ h. over-kind ground text at t et 0 ek (λ z. omega arith) (wants (pre h)) v (record { mark = mark h; state = named (context h) negative (part text (t .place)) }) code (steps h) (inv (word-fault (t .place .len) over code ec _ _ _ _ refl (rw (part-length ground text at t et)) (sizes h) n)) n)
 
-  pub word-on : code ≡ 0 → (h : H) → from ground text (wants (pre h)) v at ≡ from ground text (wants (named (context h) negative (part text (t .place)))) v (t .next)
+  pub word-on : code ≡ 0 → (h : H) → from ground text (wants (pre h)) v at ≡ from ground text (wants (named (context h) negative (part text (t .place)))) v (next-of t)
   unfolding step token-of too-big too-long too-many-variables token-number meet
   word-on z h =
       let k = word-kept (t .place .len) over code ec z in
@@ -98,10 +99,10 @@ module _ {ground : Bool} {H : Type 0} (pre : H → State ground) (context : H �
   pub word-refused : {v′ : List Place} {S : Atom (Term Value) → Type 0} → (code ≡ 0 → ⊥) → Fills atom-from over text at v (halted code (t .place)) v′ S
   word-refused n = let s = word-stops n in stopped (s .0) (s .1)
 
-  pub word-forward : at ≤ t .next
+  pub word-forward : at ≤ next-of t
   word-forward = let l = forward ground text at t et (λ q. let z : _≡_ {A = ℕ} 0 20 = inv ek ∙ q in omega arith) in omega arith
 
-  pub word-goes : {r : Progress} {v′ : List Place} {S T : Atom (Term Value) → Type 0} → ((h : H) → 13 ≤ tokenRead ground text (t .next) .kind → tokenRead ground text (t .next) .kind ≤ 19 → else-named (context h) negative (part text (t .place)) ≡ []) → code ≡ 0 → ((a : Atom (Term Value)) → t .next ≤ r .next → S a → T a) → Fills (named-in ground text (t .next) negative (part text (t .place))) false text (t .next) v r v′ S → Fills atom-from over text at v r v′ T
+  pub word-goes : {r : Progress} {v′ : List Place} {S T : Atom (Term Value) → Type 0} → ((h : H) → 13 ≤ tokenRead ground text (next-of t) .kind → tokenRead ground text (next-of t) .kind ≤ 19 → else-named (context h) negative (part text (t .place)) ≡ []) → code ≡ 0 → ((a : Atom (Term Value)) → next-of t ≤ r .place .start → S a → T a) → Fills (named-in ground text (next-of t) negative (part text (t .place))) false text (next-of t) v r v′ S → Fills atom-from over text at v r v′ T
   unfolding spell-atom
   word-goes {T = T} alone z keeps g = fills-as atom-from over at (λ x. atom negative (part text (t .place)) x) (λ h. record { context = context h; alone = alone h }) (λ o. word-kept (t .place .len) over code ec z .1) (word-on z) (λ h x. refl) spelling T word-forward (λ vs x l s. keeps _ l s) g
     where
@@ -136,7 +137,7 @@ module _ (ground : Bool) (text : Bytes) (at : ℕ) (t : TokenRead) (et : t ≡ t
     unfolding too-many
     minus-stops n = word-refused (λ (h : MinusPlace ground text at). atom-minus (h .context)) (λ h. h .context) (λ h. inside) false text at t et true v ek minus-step (λ h. refl) code ec n
 
-    pub minus-goes : {r : Progress} {v′ : List Place} {S T : Atom (Term Value) → Type 0} → code ≡ 0 → ((a : Atom (Term Value)) → t .next ≤ r .next → S a → T a) → Fills (named-in ground text (t .next) true (part text (t .place))) false text (t .next) v r v′ S → Fills (minus-in ground text at) false text at v r v′ T
+    pub minus-goes : {r : Progress} {v′ : List Place} {S T : Atom (Term Value) → Type 0} → code ≡ 0 → ((a : Atom (Term Value)) → next-of t ≤ r .place .start → S a → T a) → Fills (named-in ground text (next-of t) true (part text (t .place))) false text (next-of t) v r v′ S → Fills (minus-in ground text at) false text at v r v′ T
     unfolding too-many else-named
     minus-goes z keeps g = word-goes (λ (h : MinusPlace ground text at). atom-minus (h .context)) (λ h. h .context) (λ h. inside) false text at t et true v ek minus-step (λ h. refl) code ec (λ h l k. alone (h .context)) z keeps g
       where
@@ -173,7 +174,7 @@ module _ (ground over : Bool) (text : Bytes) (at : ℕ) (t : TokenRead) (et : t 
     pub atom-stops : {v′ : List Place} {S : Atom (Term Value) → Type 0} → (code ≡ 0 → ⊥) → Fills (atom-in ground over text at) over text at v (halted code (t .place)) v′ S
     atom-stops n = word-refused before atom-context mark-of over text at t et false v ek name-step sizes code ec n
 
-    pub atom-goes : {r : Progress} {v′ : List Place} {S T : Atom (Term Value) → Type 0} → code ≡ 0 → ((a : Atom (Term Value)) → t .next ≤ r .next → S a → T a) → Fills (named-in ground text (t .next) false (part text (t .place))) false text (t .next) v r v′ S → Fills (atom-in ground over text at) over text at v r v′ T
+    pub atom-goes : {r : Progress} {v′ : List Place} {S T : Atom (Term Value) → Type 0} → code ≡ 0 → ((a : Atom (Term Value)) → next-of t ≤ r .place .start → S a → T a) → Fills (named-in ground text (next-of t) false (part text (t .place))) false text (next-of t) v r v′ S → Fills (atom-in ground over text at) over text at v r v′ T
     unfolding else-named atom-context
     atom-goes z keeps g = word-goes before atom-context mark-of over text at t et false v ek name-step sizes code ec (λ h l k. alone h) z keeps g
       where
@@ -190,14 +191,14 @@ module _ (ground over : Bool) (text : Bytes) (at : ℕ) (t : TokenRead) (et : t 
     unfolding step token-of too-big
     signed-over o = stopped (omega arith) (λ h. over-kind ground text at t et 10 ek (λ z. omega arith) (wants (before h)) v (record { mark = mark-of h; state = atom-minus (atom-context h) }) 4 (signed-step h) (inv (fault-many _ _ _ _ refl (sizes h ∙ o))) (λ z. omega arith))
 
-    pub signed-goes : {r : Progress} {v′ : List Place} {S T : Atom (Term Value) → Type 0} → over ≡ false → ((a : Atom (Term Value)) → at ≤ t .next → t .next ≤ r .next → S a → T a) → Fills (minus-in ground text (t .next)) false text (t .next) v r v′ S → Fills (atom-in ground over text at) over text at v r v′ T
+    pub signed-goes : {r : Progress} {v′ : List Place} {S T : Atom (Term Value) → Type 0} → over ≡ false → ((a : Atom (Term Value)) → at ≤ next-of t → next-of t ≤ r .place .start → S a → T a) → Fills (minus-in ground text (next-of t)) false text (next-of t) v r v′ S → Fills (atom-in ground over text at) over text at v r v′ T
     unfolding step token-of too-big too-long too-many-variables is-underscore meet meet-symbol token-number symbol-number else-minus atom-context
     signed-goes {T = T} o keeps g = fills-as (atom-in ground over text at) over at (λ x. x) (λ h. record { context = atom-context h; alone = λ k. alone h }) (λ z. o) on-minus (λ h x. refl) (λ vs x. refl) T ahead (λ vs x l s. keeps _ ahead l s) g
       where
-        ahead : at ≤ t .next
+        ahead : at ≤ next-of t
         ahead = let l = forward ground text at t et (λ q. let z : _≡_ {A = ℕ} 10 20 = inv ek ∙ q in omega arith) in omega arith
 
-        on-minus : (h : AtomPlace ground over text at) → from ground text (wants (before h)) v at ≡ from ground text (wants (atom-minus (atom-context h))) v (t .next)
+        on-minus : (h : AtomPlace ground over text at) → from ground text (wants (before h)) v at ≡ from ground text (wants (atom-minus (atom-context h))) v (next-of t)
         on-minus h = on-kind ground text at t et 10 ek (λ z. omega arith) (wants (before h)) v v (record { mark = mark-of h; state = atom-minus (atom-context h) }) (signed-step h) (fault-none _ _ _ _ refl refl (sizes h ∙ o) refl) (meets-none text (token-by 10 (part text (t .place))) (t .place) v refl refl)
 
         alone : (h : AtomPlace ground over text at) → else-minus (atom-context h) ≡ []

@@ -6,14 +6,14 @@ use mathlib.Core.List.{List, append-nil, append-assoc}
 use Prim.Native.Nat.{ℕ, _≤_, _<_}
 use native.Mathlib.Omega.{arith}
 use lib.Dec.{eqb, leb}
-use lib.ListN.{length}
 use borrow.Author.Tests.{ne-eqb, eqb-true, eqb-false}
-use Rattle.tokens.specs.declared.Place.{Place}
+use Rattle.tokens.specs.declared.place.Place.{Place}
 use Rattle.tokens.specs.Tokens.{part}
 use Rattle.tokens.specs.Token.{nextToken}
 use Rattle.tokens.proofs.KindNumber.{kind-at-number}
 use Rattle.reading.specs.Reading.{refused}
 use Rattle.meaning.specs.Domain.{Comparison}
+use Rattle.tokens.specs.Place.{Stands}
 use Rattle.meaning.specs.Rules.{Bytes, Term, plain, Literal, builtin, Side}
 use Rattle.meaning.specs.Values.{Value}
 use Rattle.grammar.specs.Tokens.{Token, comparison}
@@ -29,7 +29,7 @@ use Rattle.grammar.proofs.Numbers.{sign-of, fire-number, try-number, try-by-num
 use Rattle.grammar.proofs.Variables.{met-append}
 use Rattle.syntax.specs.declared.token.Progress.{Progress}
 use Rattle.syntax.specs.declared.token.TokenRead.{TokenRead}
-use Rattle.syntax.specs.Text.{token-of, tokenRead}
+use Rattle.syntax.specs.Text.{token-of, tokenRead, next-of}
 use Rattle.syntax.specs.Variables.{variables-of, Fits}
 use Rattle.syntax.specs.Ahead.{Wants, wants, from}
 use Rattle.syntax.specs.Fills.{Production, going, halted, Fills, read, stopped}
@@ -54,21 +54,21 @@ module _ (text : Bytes) (at : ℕ) (t : TokenRead) (et : t ≡ tokenRead false t
       taken : (h : TailPlace) → (t .kind ≡ 20 → ⊥) → try (moves (term-read (right-in (h .body) (h .left) (h .sign)) (h .right))) (token-here false text at t et) ≡ try (after-literal (h .body) (with-tail (h .left) (h .sign) (h .right) nothing)) (token-here false text at t et)
       taken h z = try-by-number (moves (term-read (right-in (h .body) (h .left) (h .sign)) (h .right))) (token-here false text at t et) (t .kind) (number-here false text at t et z) ∙ rw (ne-eqb (t .kind) 10 (apart 10 (omega arith) (omega arith)), ne-eqb (t .kind) 11 (apart 11 (omega arith) (omega arith)), ne-eqb (t .kind) 12 (apart 12 (omega arith) (omega arith))) (inv (try-by-number (after-literal (h .body) (with-tail (h .left) (h .sign) (h .right) nothing)) (token-here false text at t et) (t .kind) (number-here false text at t et z)))
 
-  pub operation-on : 10 ≤ t .kind → t .kind ≤ 12 → (h : TailPlace) → from false text (wants (term-read (right-in (h .body) (h .left) (h .sign)) (h .right))) v at ≡ from false text (wants (term-wanted (operand-in (h .body) (h .left) (h .sign) (h .right) (operation-of (t .kind))))) v (t .next)
+  pub operation-on : 10 ≤ t .kind → t .kind ≤ 12 → (h : TailPlace) → from false text (wants (term-read (right-in (h .body) (h .left) (h .sign)) (h .right))) v at ≡ from false text (wants (term-wanted (operand-in (h .body) (h .left) (h .sign) (h .right) (operation-of (t .kind))))) v (next-of t)
   unfolding moves after-term try fire either when token-of symbol-number token-number too-big too-long too-many too-many-variables is-underscore meet meet-symbol operation-of
   operation-on low high h = go (eqb (t .kind) 10) refl (eqb (t .kind) 11) refl
     where
-      go : (x : Bool) → eqb (t .kind) 10 ≡ x → (y : Bool) → eqb (t .kind) 11 ≡ y → from false text (wants (term-read (right-in (h .body) (h .left) (h .sign)) (h .right))) v at ≡ from false text (wants (term-wanted (operand-in (h .body) (h .left) (h .sign) (h .right) (operation-of (t .kind))))) v (t .next)
+      go : (x : Bool) → eqb (t .kind) 10 ≡ x → (y : Bool) → eqb (t .kind) 11 ≡ y → from false text (wants (term-read (right-in (h .body) (h .left) (h .sign)) (h .right))) v at ≡ from false text (wants (term-wanted (operand-in (h .body) (h .left) (h .sign) (h .right) (operation-of (t .kind))))) v (next-of t)
       go true p y q = let k = eqb-true (t .kind) 10 p in on-kind false text at t et 10 k (λ z. omega arith) (wants (term-read (right-in (h .body) (h .left) (h .sign)) (h .right))) v v _ refl (fault-none _ _ _ _ refl refl refl refl) (meets-none text (token-by 10 (part text (t .place))) (t .place) v refl refl) ∙ rw p
       go false p true q = let k = eqb-true (t .kind) 11 q in on-kind false text at t et 11 k (λ z. omega arith) (wants (term-read (right-in (h .body) (h .left) (h .sign)) (h .right))) v v _ refl (fault-none _ _ _ _ refl refl refl refl) (meets-none text (token-by 11 (part text (t .place))) (t .place) v refl refl) ∙ rw (p, q)
       go false p false q = let k : t .kind ≡ 12 = omega (arith, eqb-false (t .kind) 10 p, eqb-false (t .kind) 11 q) in on-kind false text at t et 12 k (λ z. omega arith) (wants (term-read (right-in (h .body) (h .left) (h .sign)) (h .right))) v v _ refl (fault-none _ _ _ _ refl refl refl refl) (meets-none text (token-by 12 (part text (t .place))) (t .place) v refl refl) ∙ rw (p, q)
 
-module _ (text : Bytes) (at : ℕ) (t : TokenRead) (et : t ≡ tokenRead false text at) (left : Term Value) (c : Comparison) (right : Term Value) (v : List Place) where
-  pub tail-none : {S : Literal Value → Type 0} → at ≤ length text → Fits v → (t .kind < 10) ⊎ (12 < t .kind) → S (builtin c left (plain right)) → Fills (tail-in left c right) false text at v (going at) v S
-  unfolding tail-for spell-tail met
-  tail-none hat fits out s = read refl (omega arith) hat refl fits nothing s refl (no-operation-on text at t et v out)
+pub tail-none : (text : Bytes) (at : Place) → Stands text at → (t : TokenRead) → t ≡ tokenRead false text (at .start) → (left : Term Value) (c : Comparison) (right : Term Value) (v : List Place) {S : Literal Value → Type 0} → Fits v → (t .kind < 10) ⊎ (12 < t .kind) → S (builtin c left (plain right)) → Fills (tail-in left c right) false text (at .start) v (going at) v S
+unfolding tail-for spell-tail met
+tail-none text at stands t et left c right v fits out s = read refl (omega arith) stands refl fits nothing s refl (no-operation-on text (at .start) t et v out)
 
-  module _ (low : 10 ≤ t .kind) (high : t .kind ≤ 12) {w : Progress} {v₁ : List Place} {S₁ : Term Value → Type 0} (g : Fills (term-in false false) false text (t .next) v w v₁ S₁) where
+module _ (text : Bytes) (at : ℕ) (t : TokenRead) (et : t ≡ tokenRead false text at) (left : Term Value) (c : Comparison) (right : Term Value) (v : List Place) where
+  module _ (low : 10 ≤ t .kind) (high : t .kind ≤ 12) {w : Progress} {v₁ : List Place} {S₁ : Term Value → Type 0} (g : Fills (term-in false false) false text (next-of t) v w v₁ S₁) where
     place : TailPlace → TermPlace false false
     unfolding too-many term-mark
     place h = record { context = operand-in (h .body) (h .left) (h .sign) (h .right) (operation-of (t .kind)); size = refl }
@@ -77,18 +77,18 @@ module _ (text : Bytes) (at : ℕ) (t : TokenRead) (et : t ≡ tokenRead false t
     unfolding place
     tail-stops {v′} {S} ne = go g
       where
-        go : Fills (term-in false false) false text (t .next) v w v₁ S₁ → Fills (tail-in left c right) false text at v (halted (w .code) (w .place)) v′ S
+        go : Fills (term-in false false) false text (next-of t) v w v₁ S₁ → Fills (tail-in left c right) false text at v (halted (w .code) (w .place)) v′ S
         go (read z b n o f x s m q) = absurd (ne z)
         go (stopped z q) = stopped z (λ h. ap (λ y. y .answer) (operation-on text at t et v low high h) ∙ q (place h))
 
-    pub tail-goes : {S : Literal Value → Type 0} → w .code ≡ 0 → ((a : Term Value) → at ≤ t .next → t .next ≤ w .next → S₁ a → S (builtin c left (Side.computed right (operation-of (t .kind)) a))) → Fills (tail-in left c right) false text at v (going (w .next)) v₁ S
+    pub tail-goes : {S : Literal Value → Type 0} → w .code ≡ 0 → ((a : Term Value) → at ≤ next-of t → next-of t ≤ w .place .start → S₁ a → S (builtin c left (Side.computed right (operation-of (t .kind)) a))) → Fills (tail-in left c right) false text at v (going (w .place)) v₁ S
     unfolding place moves after-term with-tail tail-for spell-tail met finished
     tail-goes {S} e stands = go g
       where
-        on-token-forward : at ≤ t .next
+        on-token-forward : at ≤ next-of t
         on-token-forward = let l = forward false text at t et (λ z. omega arith) in omega arith
 
-        go : Fills (term-in false false) false text (t .next) v w v₁ S₁ → Fills (tail-in left c right) false text at v (going (w .next)) v₁ S
+        go : Fills (term-in false false) false text (next-of t) v w v₁ S₁ → Fills (tail-in left c right) false text at v (going (w .place)) v₁ S
         go (stopped z q) = absurd (omega arith)
         go (read z b n o f x s m q) =
             let vs : met (variables-of text v) (spell-tail (operand (operation-of (t .kind)) x)) ≡ met (variables-of text v) (spell-term inside x) = ap (λ vs. met vs (spell-term inside x)) (no-variable (variables-of text v) (operation-of (t .kind))) in
@@ -117,7 +117,7 @@ module _ (text : Bytes) (at : ℕ) (t : TokenRead) (et : t ≡ tokenRead false t
     pub means : comparison-for (sign-of u) ≡ comparison-of (t .kind)
     means = rw et (rw (kind-at-number (nextToken true text at .kind)) (signs-agree (nextToken true text at .kind) _ (rw et at (range .0)) (rw et at (range .1))))
 
-    pub sign-on : (h : SidePlace) → from false text (wants (term-read (left-in (h .body)) (h .left))) v at ≡ from false text (wants (term-wanted (right-in (h .body) (h .left) (sign-of u)))) v (t .next)
+    pub sign-on : (h : SidePlace) → from false text (wants (term-read (left-in (h .body)) (h .left))) v at ≡ from false text (wants (term-wanted (right-in (h .body) (h .left) (sign-of u)))) v (next-of t)
     unfolding moves after-term try-number fire-number either when too-big too-long too-many too-many-variables meet
     sign-on h = on-token false text at t et (wants (term-read (left-in (h .body)) (h .left))) v v (record { mark = inside; state = term-wanted (right-in (h .body) (h .left) (sign-of u)) }) (λ z. omega (arith, range .0, range .1)) (try-by-number (moves (term-read (left-in (h .body)) (h .left))) u (t .kind) number-is ∙ rw e) (fault-none _ _ _ _ (ap too-big is-comparison) (ap too-long is-comparison) refl (ap (too-many-variables (variables-of text v)) is-comparison)) (meets-none text u (t .place) v (ne-eqb (token-number u) 8 (λ z. omega (arith, number-is, range .0))) (ap (meet (variables-of text v)) is-comparison))
 
@@ -125,7 +125,7 @@ module _ (text : Bytes) (at : ℕ) (t : TokenRead) (et : t ≡ tokenRead false t
   pub side-wrong : {v′ : List Place} {S : Literal Value → Type 0} → (leb 13 (t .kind) && leb (t .kind) 19) ≡ false → Fills (side-in left) false text at v (halted 2 (t .place)) v′ S
   side-wrong e = stopped (omega arith) (no-sign-on text at t et v e)
 
-  module _ (e : (leb 13 (t .kind) && leb (t .kind) 19) ≡ true) {w : Progress} {v₁ : List Place} {S₁ : Term Value → Type 0} (g : Fills (term-in false false) false text (t .next) v w v₁ S₁) where
+  module _ (e : (leb 13 (t .kind) && leb (t .kind) 19) ≡ true) {w : Progress} {v₁ : List Place} {S₁ : Term Value → Type 0} (g : Fills (term-in false false) false text (next-of t) v w v₁ S₁) where
     right-place : SidePlace → TermPlace false false
     unfolding too-many term-mark
     right-place h = record { context = right-in (h .body) (h .left) (sign-of (u text at t et v)); size = refl }
@@ -134,23 +134,23 @@ module _ (text : Bytes) (at : ℕ) (t : TokenRead) (et : t ≡ tokenRead false t
     unfolding right-place
     side-stops {v′} {S} ne = go g
       where
-        go : Fills (term-in false false) false text (t .next) v w v₁ S₁ → Fills (side-in left) false text at v (halted (w .code) (w .place)) v′ S
+        go : Fills (term-in false false) false text (next-of t) v w v₁ S₁ → Fills (side-in left) false text at v (halted (w .code) (w .place)) v′ S
         go (read z b n o f x s m q) = absurd (ne z)
         go (stopped z q) = stopped z (λ h. ap (λ y. y .answer) (sign-on text at t et v e h) ∙ q (right-place h))
 
     -- the right term, and what stands behind it
-    pub side-goes : {r : Progress} {v′ : List Place} {T : Term Value → Literal Value → Type 0} {S : Literal Value → Type 0} → w .code ≡ 0 → ((a : Term Value) → S₁ a → Fills (tail-in left (comparison-of (t .kind)) a) false text (w .next) v₁ r v′ (T a)) → ((a : Term Value) (l : Literal Value) → at ≤ t .next → t .next ≤ w .next → w .next ≤ r .next → S₁ a → T a l → S l) → Fills (side-in left) false text at v r v′ S
+    pub side-goes : {r : Progress} {v′ : List Place} {T : Term Value → Literal Value → Type 0} {S : Literal Value → Type 0} → w .code ≡ 0 → ((a : Term Value) → S₁ a → Fills (tail-in left (comparison-of (t .kind)) a) false text (w .place .start) v₁ r v′ (T a)) → ((a : Term Value) (l : Literal Value) → at ≤ next-of t → next-of t ≤ w .place .start → w .place .start ≤ r .place .start → S₁ a → T a l → S l) → Fills (side-in left) false text at v r v′ S
     unfolding right-place met meet
     side-goes {r} {v′} {T} {S} z tails stands = go g
       where
-        ahead : at ≤ t .next
+        ahead : at ≤ next-of t
         ahead = let k = range text at t et v e in let l = forward false text at t et (λ q. omega (arith, k .0, k .1)) in omega arith
 
-        both : (x : TermTree false) → t .next ≤ w .next → S₁ (term-for (variables-of text v) x) → met (variables-of text v) (spell-term inside x) ≡ variables-of text v₁ → ((h : TermPlace false false) → from false text (wants (term-wanted (h .context))) v (t .next) ≡ from false text (wants (term-read (h .context) x)) v₁ (w .next)) → Fills (tail-in left (comparison-of (t .kind)) (term-for (variables-of text v) x)) false text (w .next) v₁ r v′ (T (term-for (variables-of text v) x)) → Fills (side-in left) false text at v r v′ S
+        both : (x : TermTree false) → next-of t ≤ w .place .start → S₁ (term-for (variables-of text v) x) → met (variables-of text v) (spell-term inside x) ≡ variables-of text v₁ → ((h : TermPlace false false) → from false text (wants (term-wanted (h .context))) v (next-of t) ≡ from false text (wants (term-read (h .context) x)) v₁ (w .place .start)) → Fills (tail-in left (comparison-of (t .kind)) (term-for (variables-of text v) x)) false text (w .place .start) v₁ r v′ (T (term-for (variables-of text v) x)) → Fills (side-in left) false text at v r v′ S
         both x b s m q (read c′ b′ n′ o′ f′ y s′ m′ q′) = read c′ (let l = ahead in omega arith) n′ refl f′ (record { sign = sign-of (u text at t et v); right = x; tail = y }) (rw (means text at t et v e, m) (stands _ _ ahead b b′ s s′)) (met-append (variables-of text v) (spell-term inside x) (spell-tail y) ∙ rw m m′) (λ h. sign-on text at t et v e h ∙ q (right-place h) ∙ q′ (record { body = h .body; left = h .left; sign = sign-of (u text at t et v); right = x }))
         both x b s m q (stopped c′ q′) = stopped c′ (λ h. ap (λ a. a .answer) (sign-on text at t et v e h ∙ q (right-place h)) ∙ q′ (record { body = h .body; left = h .left; sign = sign-of (u text at t et v); right = x }))
 
-        go : Fills (term-in false false) false text (t .next) v w v₁ S₁ → Fills (side-in left) false text at v r v′ S
+        go : Fills (term-in false false) false text (next-of t) v w v₁ S₁ → Fills (side-in left) false text at v r v′ S
         go (stopped c q) = absurd (omega arith)
         go (read c b n o f x s m q) = both x b s m q (tails _ s)
 
@@ -180,10 +180,10 @@ module _ {H : Type 0} (pre : H → Wants false) (body : H → BodyContext false)
   abbrev pub literal-from : Production false
   literal-from = record { Context = H; Tree = Tree false; Meant = Literal Value; before = pre; behind = λ h x. behind-literal (body h) x; spelling = spell-literal inside; meant = literal-for }
 
-  pub left-then-side : {w r : Progress} {v₁ v′ : List Place} {S₁ : Term Value → Type 0} {T : Term Value → Literal Value → Type 0} {S : Literal Value → Type 0} → Fills left-from over text at v w v₁ S₁ → ((w .code ≡ 0 → ⊥) → (r .code ≡ w .code) × (r .place ≡ w .place)) → (w .code ≡ 0 → (a : Term Value) → S₁ a → Fills (side-in a) false text (w .next) v₁ r v′ (T a)) → ((a : Term Value) (l : Literal Value) → at ≤ w .next → w .next ≤ r .next → S₁ a → T a l → S l) → Fills literal-from over text at v r v′ S
+  pub left-then-side : {w r : Progress} {v₁ v′ : List Place} {S₁ : Term Value → Type 0} {T : Term Value → Literal Value → Type 0} {S : Literal Value → Type 0} → Fills left-from over text at v w v₁ S₁ → ((w .code ≡ 0 → ⊥) → (r .code ≡ w .code) × (r .place ≡ w .place)) → (w .code ≡ 0 → (a : Term Value) → S₁ a → Fills (side-in a) false text (w .place .start) v₁ r v′ (T a)) → ((a : Term Value) (l : Literal Value) → at ≤ w .place .start → w .place .start ≤ r .place .start → S₁ a → T a l → S l) → Fills literal-from over text at v r v′ S
   left-then-side (stopped c q) refuses sides stands = let e = refuses (λ z. omega arith) in stopped (rw (e .0) c) (λ h. rw (e .0, e .1) (q h))
   left-then-side {w} {r} {v₁} {v′} {S₁} {T} {S} (read c b n o f x s m q) refuses sides stands = go (sides c _ s)
     where
-      go : Fills (side-in (term-for (variables-of text v) x)) false text (w .next) v₁ r v′ (T (term-for (variables-of text v) x)) → Fills literal-from over text at v r v′ S
+      go : Fills (side-in (term-for (variables-of text v) x)) false text (w .place .start) v₁ r v′ (T (term-for (variables-of text v) x)) → Fills literal-from over text at v r v′ S
       go (read c′ b′ n′ o′ f′ y s′ m′ q′) = read c′ (omega arith) n′ o f′ (with-tail x (y .sign) (y .right) (y .tail)) (rw (side-literal (variables-of text v) x y, m) (stands _ _ b b′ s s′)) (side-spelling (variables-of text v) x y ∙ rw m m′) (λ h. q h ∙ q′ (record { body = body h; left = x }))
       go (stopped c′ q′) = stopped c′ (λ h. ap (λ a. a .answer) (q h) ∙ q′ (record { body = body h; left = x }))

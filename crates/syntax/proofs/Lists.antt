@@ -1,11 +1,12 @@
 -- What several things read one after the other share.
-use mathlib.Core.Path.{_≡_, refl, _∙_}
+use mathlib.Core.Path.{_≡_, refl, sym as inv, _∙_}
 use mathlib.Core.Bool.{Bool, true, false}
 use mathlib.Core.List.{[], _∷_, _++_}
 use Prim.Native.Nat.{ℕ, suc, _+_}
 use native.Mathlib.Omega.{arith}
 use lib.Dec.{leb, ltb}
 use borrow.Author.Tests.{leb-true, leb-false, lt-ltb, le-ltb}
+use Rattle.tokens.specs.Place.{Stands, past}
 use Rattle.meaning.specs.Rules.{Bytes}
 use Rattle.grammar.specs.Tokens.{comma}
 use Rattle.grammar.specs.Trees.{Sequence, _then_, count}
@@ -15,6 +16,7 @@ use Rattle.grammar.proofs.Variables.{met-append}
 use Rattle.syntax.specs.declared.token.TokenRead.{TokenRead}
 use Rattle.syntax.specs.declared.separator.SeparatorRead.{SeparatorRead}
 use Rattle.syntax.specs.Text.{tokenRead}
+use Rattle.syntax.proofs.Tokens.{past-here}
 use Rattle.syntax.specs.Arguments.{goneSeparator, stoppedSeparator, Separates, last, neither}
 
 -- the next of n things is one too many where there are as many as there may be
@@ -33,11 +35,17 @@ met-then f vs xs x = met-append vs (with-commas f xs ++ f (suc (count xs)) x) (m
 -- ---- a separator, by the token there
 
 module _ (ground : Bool) (text : Bytes) (at mark : ℕ) (t : TokenRead) (et : t ≡ tokenRead ground text at) (r : SeparatorRead) where
-  pub is-comma : t .kind ≡ 7 → r ≡ goneSeparator (t .next) false → Separates ground text at mark r
+  pub is-comma : t .kind ≡ 7 → r ≡ goneSeparator (past (t .place)) false → Separates ground text at mark r
   is-comma k e = Separates.comma (rw et at k) (rw et at e)
 
-  pub is-last : (t .kind ≡ 7 → ⊥) → t .kind ≡ mark → r ≡ goneSeparator (t .next) true → Separates ground text at mark r
+  pub is-last : (t .kind ≡ 7 → ⊥) → t .kind ≡ mark → r ≡ goneSeparator (past (t .place)) true → Separates ground text at mark r
   is-last n k e = last (rw et at n) (rw et at k) (rw et at e)
 
   pub is-neither : (t .kind ≡ 7 → ⊥) → (t .kind ≡ mark → ⊥) → r ≡ stoppedSeparator (t .place) → Separates ground text at mark r
   is-neither k l e = neither (rw et at k) (rw et at l) (rw et at e)
+
+-- behind a separator, none of which is stray
+pub separator-stands : (ground : Bool) (text : Bytes) (at mark : ℕ) → (mark ≡ 21 → ⊥) → (r : SeparatorRead) → Separates ground text at mark r → r .progress .code ≡ 0 → Stands text (r .progress .place)
+separator-stands ground text at mark nm r (Separates.comma k e) z = rw e (past-here ground text at _ refl (λ q. absurd (let y : _≡_ {A = ℕ} 7 21 = inv k ∙ q in omega arith)))
+separator-stands ground text at mark nm r (last n k e) z = rw e (past-here ground text at _ refl (λ q. absurd (nm (inv k ∙ q))))
+separator-stands ground text at mark nm r (neither n k e) z = absurd (let y : _≡_ {A = ℕ} 2 0 = rw e at z in omega arith)

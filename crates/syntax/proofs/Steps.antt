@@ -8,7 +8,7 @@ use native.Mathlib.Omega.{arith}
 use lib.Dec.{eqb}
 use lib.ListN.{length}
 use borrow.Author.Tests.{eqb-true, eqb-false, le-ltb}
-use Rattle.tokens.specs.declared.Place.{Place}
+use Rattle.tokens.specs.declared.place.Place.{Place}
 use Rattle.tokens.specs.Tokens.{part}
 use Rattle.reading.specs.Reading.{Placed, tree, refused}
 use Rattle.reading.specs.Machine.{Step, walk}
@@ -25,7 +25,7 @@ use Rattle.grammar.specs.Machine.{moves, step, machine}
 use Rattle.grammar.proofs.Numbers.{try-number, try-by-number}
 use Rattle.syntax.specs.Variables.{variables-of}
 use Rattle.syntax.specs.declared.token.TokenRead.{TokenRead}
-use Rattle.syntax.specs.Text.{token-of, placed-from, end-of, tokenRead}
+use Rattle.syntax.specs.Text.{token-of, placed-from, end-of, tokenRead, next-of}
 use Rattle.syntax.specs.Ahead.{Wants, wants, wants-behind, wanting, ends-rule, is-first, if-first, firsts, behind-dot, dot-at, from}
 use Rattle.syntax.proofs.Tokens.{token-by, token-here, number-here, placed-more, placed-end, end-here}
 
@@ -65,27 +65,27 @@ module _ (ground : Bool) (text : Bytes) (at : ℕ) (t : TokenRead) (et : t ≡ t
   abbrev ahead : Placed Place Token
   ahead = record { token = here; place = t .place }
 
-  more : (t .kind ≡ 20 → ⊥) → placed-from ground text at ≡ ahead ∷ placed-from ground text (t .next)
+  more : (t .kind ≡ 20 → ⊥) → placed-from ground text at ≡ ahead ∷ placed-from ground text (next-of t)
   more h = placed-more ground text at t et h
 
-  firsts-on : (v v′ : List Place) → (t .kind ≡ 20 → ⊥) → Meets text here (t .place) v v′ → v ++ firsts (variables-of text v) (placed-from ground text at) ≡ v′ ++ firsts (variables-of text v′) (placed-from ground text (t .next))
+  firsts-on : (v v′ : List Place) → (t .kind ≡ 20 → ⊥) → Meets text here (t .place) v v′ → v ++ firsts (variables-of text v) (placed-from ground text at) ≡ v′ ++ firsts (variables-of text v′) (placed-from ground text (next-of t))
   unfolding firsts
-  firsts-on v v′ h m = rw (more h, m .going) (inv (append-assoc v (if-first (is-first (variables-of text v) here) (t .place)) (firsts (meet (variables-of text v) here) (placed-from ground text (t .next)))) ∙ ap₂ (λ (a : List Place) (b : Names). a ++ firsts b (placed-from ground text (t .next))) (inv (m .places)) (m .names))
+  firsts-on v v′ h m = rw (more h, m .going) (inv (append-assoc v (if-first (is-first (variables-of text v) here) (t .place)) (firsts (meet (variables-of text v) here) (placed-from ground text (next-of t)))) ∙ ap₂ (λ (a : List Place) (b : Names). a ++ firsts b (placed-from ground text (next-of t))) (inv (m .places)) (m .names))
 
-  rest-on : (t .kind ≡ 20 → ⊥) → ends-rule here ≡ false → behind-dot (placed-from ground text at) ≡ behind-dot (placed-from ground text (t .next))
+  rest-on : (t .kind ≡ 20 → ⊥) → ends-rule here ≡ false → behind-dot (placed-from ground text at) ≡ behind-dot (placed-from ground text (next-of t))
   unfolding behind-dot
   rest-on h e = rw (more h, e)
 
-  dot-on : (t .kind ≡ 20 → ⊥) → ends-rule here ≡ false → dot-at (placed-from ground text at) ≡ dot-at (placed-from ground text (t .next))
+  dot-on : (t .kind ≡ 20 → ⊥) → ends-rule here ≡ false → dot-at (placed-from ground text at) ≡ dot-at (placed-from ground text (next-of t))
   unfolding dot-at
   dot-on h e = rw (more h, e)
 
   -- a token that is taken, within the sizes
-  pub on-token : (w : Wants ground) (v v′ : List Place) (x : Step (State ground) Mark) → (t .kind ≡ 20 → ⊥) → try (w .next) here ≡ some x → fault-at ground text v here (x .mark) ≡ 0 → Meets text here (t .place) v v′ → from ground text w v at ≡ from ground text (wants (x .state)) v′ (t .next)
+  pub on-token : (w : Wants ground) (v v′ : List Place) (x : Step (State ground) Mark) → (t .kind ≡ 20 → ⊥) → try (w .next) here ≡ some x → fault-at ground text v here (x .mark) ≡ 0 → Meets text here (t .place) v v′ → from ground text w v at ≡ from ground text (wants (x .state)) v′ (next-of t)
   unfolding wants-behind
   on-token w v v′ x h e f m = λ i. record { answer = answers i; firsts = firsts-on v v′ h m i; rest = rest-on h (m .going) i; dot = dot-on h (m .going) i }
     where
-      answers : from ground text w v at .answer ≡ from ground text (wants (x .state)) v′ (t .next) .answer
+      answers : from ground text w v at .answer ≡ from ground text (wants (x .state)) v′ (next-of t) .answer
       answers = rw (more h, ← (m .names)) (walk-on (language ground) (wanting ground) w (variables-of text v) (end-of text) ahead _ (record { mark = x .mark; state = wants (x .state) }) (rw e) f)
 
   -- a token that passes a size
@@ -123,20 +123,20 @@ module _ (ground : Bool) (text : Bytes) (at : ℕ) (t : TokenRead) (et : t ≡ t
     not-end : t .kind ≡ 20 → ⊥
     not-end q = nk (inv ek ∙ q)
 
-    pub on-kind : (w : Wants ground) (v v′ : List Place) (x : Step (State ground) Mark) → try (w .next) by ≡ some x → fault-at ground text v by (x .mark) ≡ 0 → Meets text by (t .place) v v′ → from ground text w v at ≡ from ground text (wants (x .state)) v′ (t .next)
+    pub on-kind : (w : Wants ground) (v v′ : List Place) (x : Step (State ground) Mark) → try (w .next) by ≡ some x → fault-at ground text v by (x .mark) ≡ 0 → Meets text by (t .place) v v′ → from ground text w v at ≡ from ground text (wants (x .state)) v′ (next-of t)
     on-kind w v v′ x e f m = on-token w v v′ x not-end (rw ek e) (rw ek f) (rw ek m)
 
     pub over-kind : (w : Wants ground) (v : List Place) (x : Step (State ground) Mark) (n : ℕ) → try (w .next) by ≡ some x → n ≡ fault-at ground text v by (x .mark) → (n ≡ 0 → ⊥) → from ground text w v at .answer ≡ refused n (t .place)
     over-kind w v x n e f z = over-token w v x n not-end (rw ek e) (rw ek f) z
 
   -- a dot, behind which no variable is remembered
-  pub dot-token : t .kind ≡ 8 → (w : Wants ground) (v : List Place) (x : Step (State ground) Mark) → try (w .next) (symbol dot) ≡ some x → fault-at ground text v (symbol dot) (x .mark) ≡ 0 → (from ground text w v at .answer ≡ walk (language ground) (wanting ground) (wants (x .state)) [] (end-of text) (placed-from ground text (t .next))) × (from ground text w v at .firsts ≡ v) × (from ground text w v at .rest ≡ some (placed-from ground text (t .next)))
+  pub dot-token : t .kind ≡ 8 → (w : Wants ground) (v : List Place) (x : Step (State ground) Mark) → try (w .next) (symbol dot) ≡ some x → fault-at ground text v (symbol dot) (x .mark) ≡ 0 → (from ground text w v at .answer ≡ walk (language ground) (wanting ground) (wants (x .state)) [] (end-of text) (placed-from ground text (next-of t))) × (from ground text w v at .firsts ≡ v) × (from ground text w v at .rest ≡ some (placed-from ground text (next-of t)))
   unfolding wants-behind token-of meet meet-symbol firsts behind-dot token-number symbol-number
   dot-token ek w v x e f = (rw more-dot (walk-on (language ground) (wanting ground) w (variables-of text v) (end-of text) _ _ (record { mark = x .mark; state = wants (x .state) }) (rw e) f), rw more-dot (append-nil v), rw more-dot)
     where
-      more-dot : placed-from ground text at ≡ record { token = symbol dot; place = t .place } ∷ placed-from ground text (t .next)
-      more-dot = more (λ q. omega arith) ∙ ap (λ k. record { token = token-by k (part text (t .place)); place = t .place } ∷ placed-from ground text (t .next)) ek
+      more-dot : placed-from ground text at ≡ record { token = symbol dot; place = t .place } ∷ placed-from ground text (next-of t)
+      more-dot = more (λ q. omega arith) ∙ ap (λ k. record { token = token-by k (part text (t .place)); place = t .place } ∷ placed-from ground text (next-of t)) ek
 
   pub dot-stands : t .kind ≡ 8 → dot-at (placed-from ground text at) ≡ some (t .place)
   unfolding dot-at token-of token-number symbol-number
-  dot-stands ek = ap dot-at (more (λ q. omega arith) ∙ ap (λ k. record { token = token-by k (part text (t .place)); place = t .place } ∷ placed-from ground text (t .next)) ek)
+  dot-stands ek = ap dot-at (more (λ q. omega arith) ∙ ap (λ k. record { token = token-by k (part text (t .place)); place = t .place } ∷ placed-from ground text (next-of t)) ek)

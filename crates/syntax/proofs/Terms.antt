@@ -8,10 +8,11 @@ use native.Mathlib.Omega.{arith}
 use lib.Dec.{leb}
 use lib.ListN.{length}
 use borrow.Author.Tests.{ne-eqb, lt-ltb, le-ltb}
-use Rattle.tokens.specs.declared.Place.{Place}
+use Rattle.tokens.specs.declared.place.Place.{Place}
 use Rattle.tokens.specs.Number.{capped, decimal}
 use Rattle.tokens.specs.Tokens.{part}
 use Rattle.reading.specs.Reading.{_▹_}
+use Rattle.tokens.specs.Place.{past}
 use Rattle.meaning.specs.Rules.{Bytes, Term, constant, variable}
 use Rattle.meaning.specs.Values.{Value, same-bytes}
 use Rattle.grammar.specs.Tokens.{underscore, Token, number}
@@ -27,12 +28,12 @@ use Rattle.grammar.proofs.Moves.{free-given, free-denied}
 use Rattle.grammar.proofs.Numbers.{try-number, fire-number}
 use Rattle.syntax.specs.declared.token.Progress.{Progress}
 use Rattle.syntax.specs.declared.token.TokenRead.{TokenRead}
-use Rattle.syntax.specs.Text.{token-of, tokenRead}
+use Rattle.syntax.specs.Text.{token-of, tokenRead, next-of}
 use Rattle.syntax.specs.Variables.{variables-of, Fits, first-among}
 use Rattle.syntax.specs.Ahead.{wants, if-first, from}
 use Rattle.syntax.specs.Fills.{Production, going, halted, Fills, read, stopped}
 use Rattle.syntax.specs.Terms.{TermPlace, term-in, negative-in, signed, wordCode}
-use Rattle.syntax.proofs.Tokens.{token-by, token-here, within, forward, part-length, spelled-here}
+use Rattle.syntax.proofs.Tokens.{token-by, token-here, past-here, forward, part-length, spelled-here}
 use Rattle.syntax.proofs.Steps.{fault-at, Meets, meets-none, on-kind, over-kind, wrong-token}
 use Rattle.syntax.proofs.Sizes.{fault-none, fault-big, fault-many, fault-variables, word-kept, word-four, word-fault, capped-small, capped-big}
 use Rattle.syntax.proofs.Readings.{fills-as}
@@ -56,9 +57,9 @@ module _ {ground : Bool} {H : Type 0} (pre : H → State ground) (place : H → 
     term-stops next steps n big faults = stopped big (λ h. over-kind ground text at t et k ek nk (wants (pre h)) v (record { mark = mark h; state = next h }) n (steps h) (inv (faults h)) (λ z. omega arith))
 
     -- it is a term of one token
-    pub term-goes : {v′ : List Place} {S : Term Value → Type 0} → (x : Tree ground) → ((h : H) → step (pre h) u ≡ some (record { mark = mark h; state = term-read (place h) x })) → over ≡ false → ((h : H) → fault-at ground text v u (mark h) ≡ 0) → Fits v′ → Meets text u (t .place) v v′ → met (variables-of text v) (spell-term inside x) ≡ variables-of text v′ → S (term-for (variables-of text v) x) → Fills term-from over text at v (going (t .next)) v′ S
+    pub term-goes : {v′ : List Place} {S : Term Value → Type 0} → (k ≡ 21 → ⊥) → (x : Tree ground) → ((h : H) → step (pre h) u ≡ some (record { mark = mark h; state = term-read (place h) x })) → over ≡ false → ((h : H) → fault-at ground text v u (mark h) ≡ 0) → Fits v′ → Meets text u (t .place) v v′ → met (variables-of text v) (spell-term inside x) ≡ variables-of text v′ → S (term-for (variables-of text v) x) → Fills term-from over text at v (going (past (t .place))) v′ S
     unfolding step
-    term-goes {v′} x steps o faults fits m names s = read refl (omega (arith, forward ground text at t et (λ q. nk (inv ek ∙ q)))) (within ground text at t et) o fits x s names (λ h. on-kind ground text at t et k ek nk (wants (pre h)) v v′ (record { mark = mark h; state = term-read (place h) x }) (steps h) (faults h) m)
+    term-goes {v′} sk x steps o faults fits m names s = read refl (omega (arith, forward ground text at t et (λ q. nk (inv ek ∙ q)))) (past-here ground text at t et (λ q. absurd (sk (inv ek ∙ q)))) o fits x s names (λ h. on-kind ground text at t et k ek nk (wants (pre h)) v v′ (record { mark = mark h; state = term-read (place h) x }) (steps h) (faults h) m)
 
 -- a number, in any state that takes one
 module _ {ground : Bool} {H : Type 0} (pre : H → State ground) (place : H → TermContext ground) (mark : H → Mark) (text : Bytes) (at : ℕ) (t : TokenRead) (et : t ≡ tokenRead ground text at) (over : Bool) (v : List Place) (ek : t .kind ≡ 4) (negative : Bool) (mk : ℕ → Tree ground) (steps : (h : H) (n : ℕ) → step (pre h) (number n) ≡ some (record { mark = mark h; state = term-read (place h) (mk n) })) (sizes : (h : H) → too-many ground (mark h) ≡ over) where
@@ -74,11 +75,11 @@ module _ {ground : Bool} {H : Type 0} (pre : H → State ground) (place : H → 
     unfolding token-of too-big
     number-many o = term-stops pre place mark text at t et over v 4 ek (λ z. omega arith) (λ h. term-read (place h) (mk n)) (λ h. steps h _) 4 (omega arith) (λ h. fault-many _ _ _ _ (capped-small n q .1) (sizes h ∙ o))
 
-    number-small : {S : Term Value → Type 0} → Fits v → over ≡ false → ((vs : Names) (m : ℕ) → term-for vs (mk m) ≡ constant (Value.number (signed negative m))) → ((vs : Names) (m : ℕ) → met vs (spell-term inside (mk m)) ≡ vs) → S (constant (Value.number (signed negative (capped n)))) → Fills (term-from pre place) over text at v (going (t .next)) v S
+    number-small : {S : Term Value → Type 0} → Fits v → over ≡ false → ((vs : Names) (m : ℕ) → term-for vs (mk m) ≡ constant (Value.number (signed negative m))) → ((vs : Names) (m : ℕ) → met vs (spell-term inside (mk m)) ≡ vs) → S (constant (Value.number (signed negative (capped n)))) → Fills (term-from pre place) over text at v (going (past (t .place))) v S
     unfolding token-of too-big too-long too-many-variables token-number meet
     number-small fits o means names s =
         let c = capped-small n q in
-        term-goes pre place mark text at t et over v 4 ek (λ z. omega arith) (mk n) (λ h. steps h _) o (λ h. fault-none _ _ _ _ (c .1) refl (sizes h ∙ o) refl) fits (meets-none text (number n) (t .place) v refl refl) (names _ _) (rw (means (variables-of text v) n, ← (c .0)) s)
+        term-goes pre place mark text at t et over v 4 ek (λ z. omega arith) (λ z. omega arith) (mk n) (λ h. steps h _) o (λ h. fault-none _ _ _ _ (c .1) refl (sizes h ∙ o) refl) fits (meets-none text (number n) (t .place) v refl refl) (names _ _) (rw (means (variables-of text v) n, ← (c .0)) s)
 
 module _ (ground over : Bool) (text : Bytes) (at : ℕ) (t : TokenRead) (et : t ≡ tokenRead ground text at) (v : List Place) where
   abbrev before : TermPlace ground over → State ground
@@ -102,7 +103,7 @@ module _ (ground over : Bool) (text : Bytes) (at : ℕ) (t : TokenRead) (et : t 
     pub term-many : {v′ : List Place} {S : Term Value → Type 0} → leb value greatest-number ≡ true → over ≡ true → Fills (term-in ground over) over text at v (halted 4 (t .place)) v′ S
     term-many q o = number-many before (λ h. h .context) mark text at t et over v ek false Tree.number number-step (λ h. h .size) q o
 
-    pub term-small : {S : Term Value → Type 0} → leb value greatest-number ≡ true → Fits v → over ≡ false → S (constant (Value.number (signed false value))) → Fills (term-in ground over) over text at v (going (t .next)) v S
+    pub term-small : {S : Term Value → Type 0} → leb value greatest-number ≡ true → Fits v → over ≡ false → S (constant (Value.number (signed false value))) → Fills (term-in ground over) over text at v (going (past (t .place))) v S
     unfolding term-for signed met spell-term meet
     term-small q fits o s = number-small before (λ h. h .context) mark text at t et over v ek false Tree.number number-step (λ h. h .size) q fits o (λ vs m. refl) (λ vs m. refl) s
 
@@ -115,7 +116,7 @@ module _ (ground over : Bool) (text : Bytes) (at : ℕ) (t : TokenRead) (et : t 
     unfolding too-many
     negative-big q = number-big term-minus (λ h. h) (λ h. inside) text at t et false v ek true Tree.negative negative-step (λ h. refl) q
 
-    pub negative-small : {S : Term Value → Type 0} → leb value greatest-number ≡ true → Fits v → S (constant (Value.number (signed true value))) → Fills (negative-in ground) false text at v (going (t .next)) v S
+    pub negative-small : {S : Term Value → Type 0} → leb value greatest-number ≡ true → Fits v → S (constant (Value.number (signed true value))) → Fills (negative-in ground) false text at v (going (past (t .place))) v S
     unfolding term-for signed met spell-term meet meet-symbol too-many
     negative-small q fits s = number-small term-minus (λ h. h) (λ h. inside) text at t et false v ek true Tree.negative negative-step (λ h. refl) q fits refl (λ vs m. refl) (λ vs m. refl) s
 
@@ -134,11 +135,11 @@ module _ (ground over : Bool) (text : Bytes) (at : ℕ) (t : TokenRead) (et : t 
     unfolding token-of too-big too-long
     name-stops n = term-stops before (λ h. h .context) mark text at t et over v 0 ek (λ z. omega arith) (λ h. term-read (h .context) (Tree.name (part text (t .place)))) name-step code (omega (arith, word-four (t .place .len) over code ec n)) (λ h. word-fault (t .place .len) over code ec _ _ _ _ refl (rw (part-length ground text at t et)) (h .size) n)
 
-    pub name-goes : {S : Term Value → Type 0} → code ≡ 0 → Fits v → S (constant (Value.name (part text (t .place)))) → Fills (term-in ground over) over text at v (going (t .next)) v S
+    pub name-goes : {S : Term Value → Type 0} → code ≡ 0 → Fits v → S (constant (Value.name (part text (t .place)))) → Fills (term-in ground over) over text at v (going (past (t .place))) v S
     unfolding token-of too-big too-long too-many-variables term-for met meet spell-term token-number
     name-goes z fits s =
         let k = word-kept (t .place .len) over code ec z in
-        term-goes before (λ h. h .context) mark text at t et over v 0 ek (λ q. omega arith) (Tree.name (part text (t .place))) name-step (k .1) (λ h. fault-none _ _ _ _ refl (rw (part-length ground text at t et) (k .0)) (h .size ∙ k .1) refl) fits (meets-none text (Token.name (part text (t .place))) (t .place) v refl refl) refl s
+        term-goes before (λ h. h .context) mark text at t et over v 0 ek (λ q. omega arith) (λ z. omega arith) (Tree.name (part text (t .place))) name-step (k .1) (λ h. fault-none _ _ _ _ refl (rw (part-length ground text at t et) (k .0)) (h .size ∙ k .1) refl) fits (meets-none text (Token.name (part text (t .place))) (t .place) v refl refl) refl s
 
   -- ---- a minus
 
@@ -152,11 +153,11 @@ module _ (ground over : Bool) (text : Bytes) (at : ℕ) (t : TokenRead) (et : t 
     minus-over o = term-stops before (λ h. h .context) mark text at t et over v 10 ek (λ z. omega arith) (λ h. term-minus (h .context)) minus-step 4 (omega arith) (λ h. fault-many _ _ _ _ refl (h .size ∙ o))
 
     -- and what was read behind it
-    pub minus-goes : {v′ : List Place} {r : Progress} {S T : Term Value → Type 0} → over ≡ false → ((a : Term Value) → S a → T a) → Fills (negative-in ground) false text (t .next) v r v′ S → Fills (term-in ground over) over text at v r v′ T
+    pub minus-goes : {v′ : List Place} {r : Progress} {S T : Term Value → Type 0} → over ≡ false → ((a : Term Value) → S a → T a) → Fills (negative-in ground) false text (next-of t) v r v′ S → Fills (term-in ground over) over text at v r v′ T
     unfolding step token-of too-big too-long too-many-variables is-underscore meet meet-symbol token-number symbol-number
     minus-goes {T = T} o keeps g = fills-as (term-in ground over) over at (λ x. x) (λ h. h .context) (λ z. o) on-minus (λ h x. refl) (λ vs x. refl) T (omega (arith, forward ground text at t et (λ q. let z : _≡_ {A = ℕ} 10 20 = inv ek ∙ q in omega arith))) (λ vs x b s. keeps _ s) g
       where
-        on-minus : (h : TermPlace ground over) → from ground text (wants (term-wanted (h .context))) v at ≡ from ground text (wants (term-minus (h .context))) v (t .next)
+        on-minus : (h : TermPlace ground over) → from ground text (wants (term-wanted (h .context))) v at ≡ from ground text (wants (term-minus (h .context))) v (next-of t)
         on-minus h = on-kind ground text at t et 10 ek (λ z. omega arith) (wants (term-wanted (h .context))) v v (record { mark = term-mark (h .context); state = term-minus (h .context) }) (minus-step h) (fault-none _ _ _ _ refl refl (h .size ∙ o) refl) (meets-none text (token-by 10 (part text (t .place))) (t .place) v refl refl)
 
   -- ---- no term: a facts line has no variables
@@ -213,19 +214,19 @@ module _ (over : Bool) (text : Bytes) (at : ℕ) (t : TokenRead) (et : t ≡ tok
       o : over ≡ false
       o = word-kept (t .place .len) over code ec z .1
 
-      pub variable-known : {S : Term Value → Type 0} → S (variable n) → Fits v → n < length v → Fills (term-in false over) over text at v (going (t .next)) v S
+      pub variable-known : {S : Term Value → Type 0} → S (variable n) → Fits v → n < length v → Fills (term-in false over) over text at v (going (past (t .place))) v S
       unfolding token-of too-big too-many-variables token-number met meet spell-term
       variable-known s fits k =
           let e = known text v (t .place) no-underscore n en k in
-          term-goes (before false over text at t et v) (λ h. h .context) (mark false over text at t et v) text at t et over v 2 ek (λ z. omega arith) (Tree.variable tt b) variable-step o (λ h. fault-none _ _ _ _ refl (short h) (h .size ∙ o) (rw (e, count-names text v) (le-ltb 16 (length v) fits))) fits (meets-none text (Token.variable b) (t .place) v refl e) e (rw means s)
+          term-goes (before false over text at t et v) (λ h. h .context) (mark false over text at t et v) text at t et over v 2 ek (λ z. omega arith) (λ z. omega arith) (Tree.variable tt b) variable-step o (λ h. fault-none _ _ _ _ refl (short h) (h .size ∙ o) (rw (e, count-names text v) (le-ltb 16 (length v) fits))) fits (meets-none text (Token.variable b) (t .place) v refl e) e (rw means s)
 
-      pub variable-new : {S : Term Value → Type 0} → S (variable n) → length v ≤ n → (16 ≤ n → ⊥) → Fills (term-in false over) over text at v (going (t .next)) (v ++ (t .place ∷ [])) S
+      pub variable-new : {S : Term Value → Type 0} → S (variable n) → length v ≤ n → (16 ≤ n → ⊥) → Fills (term-in false over) over text at v (going (past (t .place))) (v ++ (t .place ∷ [])) S
       unfolding token-of too-big too-many-variables token-number met meet spell-term if-first
       variable-new s k q =
           let room : length v < 16 = omega arith in
           let e = unknown text v (t .place) no-underscore n en k in
           let f : with-variable vs b ≡ variables-of text (v ++ (t .place ∷ [])) = e ∙ inv (added text v (t .place) no-underscore n en) in
-          term-goes (before false over text at t et v) (λ h. h .context) (mark false over text at t et v) text at t et over v 2 ek (λ z. omega arith) (Tree.variable tt b) variable-step o (λ h. fault-none _ _ _ _ refl (short h) (h .size ∙ o) (rw (e, length-more vs (some b), count-names text v) (le-ltb 16 (suc (length v)) (omega arith)))) (one-more text v (t .place) room) (record { going = refl; names = f; places = rw (e, length-more vs (some b), lt-ltb (length vs) (suc (length vs)) (omega arith)) }) f (rw means s)
+          term-goes (before false over text at t et v) (λ h. h .context) (mark false over text at t et v) text at t et over v 2 ek (λ z. omega arith) (λ z. omega arith) (Tree.variable tt b) variable-step o (λ h. fault-none _ _ _ _ refl (short h) (h .size ∙ o) (rw (e, length-more vs (some b), count-names text v) (le-ltb 16 (suc (length v)) (omega arith)))) (one-more text v (t .place) room) (record { going = refl; names = f; places = rw (e, length-more vs (some b), lt-ltb (length vs) (suc (length vs)) (omega arith)) }) f (rw means s)
 
 -- ---- `_`, in a program
 
@@ -242,8 +243,8 @@ module _ (over : Bool) (text : Bytes) (at : ℕ) (t : TokenRead) (et : t ≡ tok
   unfolding token-of too-big too-many-variables is-underscore
   anonymous-many l = term-stops (before false over text at t et v) (λ h. h .context) (mark false over text at t et v) text at t et over v 3 ek (λ z. omega arith) (λ h. term-read (h .context) (Tree.anonymous tt)) anonymous-step 4 (omega arith) (λ h. fault-variables _ _ _ _ refl (rw (count-names text v) (lt-ltb 16 (suc (length v)) (omega arith))))
 
-  pub anonymous-new : {S : Term Value → Type 0} → over ≡ false → length v < 16 → S (variable (length v)) → Fills (term-in false over) over text at v (going (t .next)) (v ++ (t .place ∷ [])) S
+  pub anonymous-new : {S : Term Value → Type 0} → over ≡ false → length v < 16 → S (variable (length v)) → Fills (term-in false over) over text at v (going (past (t .place))) (v ++ (t .place ∷ [])) S
   unfolding token-of too-big too-long too-many-variables is-underscore token-number symbol-number met meet meet-symbol spell-term if-first term-for
   anonymous-new o room s =
       let f : variables-of text v ▹ none ≡ variables-of text (v ++ (t .place ∷ [])) = inv (more-names text v (t .place) ∙ rw (underscored (part text (t .place)) (rw ek at (spelled-here false text at t et (λ q. omega arith))))) in
-      term-goes (before false over text at t et v) (λ h. h .context) (mark false over text at t et v) text at t et over v 3 ek (λ z. omega arith) (Tree.anonymous tt) anonymous-step o (λ h. fault-none _ _ _ _ refl refl (h .size ∙ o) (rw (count-names text v) (le-ltb 16 (suc (length v)) (omega arith)))) (one-more text v (t .place) room) (record { going = refl; names = f; places = rw (length-more (variables-of text v) none, lt-ltb (length (variables-of text v)) (suc (length (variables-of text v))) (omega arith)) }) f (rw (count-names text v) s)
+      term-goes (before false over text at t et v) (λ h. h .context) (mark false over text at t et v) text at t et over v 3 ek (λ z. omega arith) (λ z. omega arith) (Tree.anonymous tt) anonymous-step o (λ h. fault-none _ _ _ _ refl refl (h .size ∙ o) (rw (count-names text v) (le-ltb 16 (suc (length v)) (omega arith)))) (one-more text v (t .place) room) (record { going = refl; names = f; places = rw (length-more (variables-of text v) none, lt-ltb (length (variables-of text v)) (suc (length (variables-of text v))) (omega arith)) }) f (rw (count-names text v) s)

@@ -5,7 +5,7 @@ use mathlib.Core.List.{[], _∷_, map}
 use Prim.Native.Nat.{ℕ, _+_, _≤_, _<_}
 use native.Mathlib.Omega.{arith}
 use lib.ListN.{length, length-take, length-drop}
-use borrow.Author.Tests.{eq-eqb, ne-eqb}
+use borrow.Author.Tests.{eqb-true, eq-eqb, ne-eqb}
 use Rattle.tokens.specs.declared.kind.Kind.{Kind}
 use Rattle.tokens.specs.declared.kind.Kind.the-variants.{Name, Not, Variable, Anonymous, Number, Open, Close, Comma, Dot, If, Minus, Plus, Times, Equal, Unequal, AlsoUnequal, Less, AtMost, Greater, AtLeast, End, Stray}
 use Rattle.tokens.specs.declared.Token.{Token as TextToken}
@@ -15,12 +15,15 @@ use Rattle.tokens.specs.Tokens.{part}
 use Rattle.tokens.specs.Spelling.{kindOf}
 use Rattle.tokens.proofs.KindNumber.{kindAt, kind-at-number}
 use Rattle.tokens.proofs.Next.{inside, end-place, next-kind, onward}
+use Rattle.tokens.proofs.Counting.{past-countable as countable-past}
+use Rattle.tokens.proofs.OneLine.{next-stands, past-stands}
 use Rattle.tokens.proofs.TokenList.{tokens-end, tokens-more}
+use Rattle.tokens.specs.Place.{Stands, past, countless, Countable}
 use Rattle.meaning.specs.Rules.{Bytes}
 use Rattle.grammar.specs.Tokens.{Token}
 use Rattle.grammar.specs.Moves.{symbol-number, comparison-number, sign-number, token-number}
 use Rattle.syntax.specs.declared.token.TokenRead.{TokenRead}
-use Rattle.syntax.specs.Text.{token-of, placed-token, placed-from, end-of, tokenRead}
+use Rattle.syntax.specs.Text.{token-of, placed-token, placed-from, end-of, tokenRead, next-of}
 
 -- the grammar's token of a kind's number
 abbrev pub token-by : ℕ → Bytes → Token
@@ -53,25 +56,33 @@ of-kind End b h = absurd (h refl)
 of-kind Stray b h = refl
 
 -- the token that the reader of tokens gives is the one at the place
-pub as-read : (ground : Bool) (text : Bytes) (at : ℕ) (t : TextToken) → t ≡ nextToken (not ground) text at → (k : ℕ) → k ≡ kindNumber (t .kind) → record { kind = k; place = t .place; next = t .place .start + t .place .len } ≡ tokenRead ground text at
+pub as-read : (ground : Bool) (text : Bytes) (at : ℕ) (t : TextToken) → t ≡ nextToken (not ground) text at → (k : ℕ) → k ≡ kindNumber (t .kind) → record { kind = k; place = t .place } ≡ tokenRead ground text at
 as-read ground text at t e k q = rw (q, e)
-
-pub read-inside : (ground : Bool) (text : Bytes) (at : ℕ) (t : TextToken) → t ≡ nextToken (not ground) text at → t .place .start + t .place .len ≤ length text
-read-inside ground text at t e = rw e (inside (not ground) text at)
 
 module _ (ground : Bool) (text : Bytes) (at : ℕ) (t : TokenRead) (et : t ≡ tokenRead ground text at) where
   abbrev next : TextToken
   next = nextToken (not ground) text at
 
   -- it lies inside the text
-  pub within : t .next ≤ length text
+  pub within : next-of t ≤ length text
   within = rw et (inside (not ground) text at)
 
   pub place-within : t .place .start + t .place .len ≤ length text
   place-within = rw et (inside (not ground) text at)
 
+  -- and stands there by its line and column
+  pub place-stands : Stands text (t .place)
+  place-stands = rw et (next-stands (not ground) text at)
+
+  pub past-countable : length text < countless → Countable (t .place) (next-of t)
+  past-countable f = countable-past text (t .place) place-stands place-within f
+
+  -- what stands behind it stands on its line: a newline is a token on a facts line alone, and is stray there
+  pub past-here : (t .kind ≡ 21 → ground ≡ false) → Stands text (past (t .place))
+  past-here h = rw et (past-stands (not ground) text at (λ q. ap not (h (rw et (eqb-true (kindNumber (next .kind)) 21 q)))))
+
   -- and behind the place from which it is looked for
-  pub forward : (t .kind ≡ 20 → ⊥) → at < t .next
+  pub forward : (t .kind ≡ 20 → ⊥) → at < next-of t
   forward h = rw et (onward (not ground) text at (ne-eqb (kindNumber (next .kind)) 20 (λ q. h (rw et q))))
 
   pub part-length : length (part text (t .place)) ≡ t .place .len
@@ -88,7 +99,7 @@ module _ (ground : Bool) (text : Bytes) (at : ℕ) (t : TokenRead) (et : t ≡ t
   number-here h = ap token-number (inv token-same) ∙ of-kind (next .kind) _ (λ q. h (rw et q)) ∙ rw et
 
   -- the token heads what follows
-  pub placed-more : (t .kind ≡ 20 → ⊥) → placed-from ground text at ≡ record { token = token-here; place = t .place } ∷ placed-from ground text (t .next)
+  pub placed-more : (t .kind ≡ 20 → ⊥) → placed-from ground text at ≡ record { token = token-here; place = t .place } ∷ placed-from ground text (next-of t)
   placed-more h =
       let e : isEnd (next .kind) ≡ false = ne-eqb (kindNumber (next .kind)) 20 (λ q. h (rw et q)) in
       ap (map (placed-token text)) (tokens-more (not ground) text at e) ∙ rw (token-same, et)

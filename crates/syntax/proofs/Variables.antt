@@ -9,8 +9,9 @@ use native.Mathlib.Numerals.{add-one}
 use lib.ListN.{length, drop, getD, length-append, drop-of-length-le, List·getD-map, length-map}
 use lib.Seq.{drop-cons}
 use borrow.Author.Tests.{lt-ltb, le-ltb}
-use Rattle.tokens.specs.declared.Place.{Place}
-use Rattle.tokens.specs.Places.{nowhere, places-in, place-in}
+use Rattle.tokens.specs.declared.place.Place.{Place}
+use Rattle.tokens.specs.Place.{text-start}
+use Rattle.tokens.specs.Places.{places-in, place-in}
 use Rattle.tokens.specs.Tokens.{part}
 use Rattle.tokens.specs.Kind.{kindNumber}
 use Rattle.tokens.specs.Class.{classOf}
@@ -78,7 +79,7 @@ module _ (text : Bytes) (b : Bytes) (table : List ℕ) (met i : ℕ) where
 
   module _ (h : i < met) (x y : Bytes) (ex : x ≡ b) (p : Place) (ep : p ≡ place-in table i) (ey : y ≡ part text p) (r : Bool) (er : r ≡ same-bytes x y) where
     same-here : same-bytes b (getD met-names i []) ≡ r
-    same-here = ap (same-bytes b) (List·getD-map (part text) (places-in table met) i nowhere ∙ ap (part text) (place-among table met i nowhere h ∙ inv ep) ∙ inv ey) ∙ ap (λ z. same-bytes z y) (inv ex) ∙ inv er
+    same-here = ap (same-bytes b) (List·getD-map (part text) (places-in table met) i text-start ∙ ap (part text) (place-among table met i text-start h ∙ inv ep) ∙ inv ey) ∙ ap (λ z. same-bytes z y) (inv ex) ∙ inv er
 
     pub among-here : r ≡ true → first-among b (drop i met-names) ≡ 0
     unfolding first-among

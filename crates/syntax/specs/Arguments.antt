@@ -3,7 +3,8 @@ use mathlib.Core.Path.{_≡_}
 use mathlib.Core.Bool.{Bool, true, false}
 use mathlib.Core.List.{List}
 use Prim.Native.Nat.{ℕ}
-use Rattle.tokens.specs.declared.Place.{Place}
+use Rattle.tokens.specs.declared.place.Place.{Place}
+use Rattle.tokens.specs.Place.{past}
 use Rattle.meaning.specs.Rules.{Bytes, Term}
 use Rattle.meaning.specs.Values.{Value}
 use Rattle.grammar.specs.Trees.{Arguments as Tree, atom}
@@ -27,7 +28,7 @@ arguments-in ground = record { Context = ArgumentsPlace ground; Tree = Tree grou
 
 -- ---- what the function that reads a separator answers
 
-abbrev pub goneSeparator : ℕ → Bool → SeparatorRead
+abbrev pub goneSeparator : Place → Bool → SeparatorRead
 goneSeparator next last = record { progress = going next; last = last }
 
 abbrev pub stoppedSeparator : Place → SeparatorRead
@@ -35,6 +36,6 @@ stoppedSeparator place = record { progress = halted 2 place; last = false }
 
 -- the next token is a comma, else the mark of a list's end, or neither
 pub data Separates (ground : Bool) (text : Bytes) (at mark : ℕ) (r : SeparatorRead) : Type 0 where
-  comma : tokenRead ground text at .kind ≡ 7 → r ≡ goneSeparator (tokenRead ground text at .next) false → Separates ground text at mark r
-  last : (tokenRead ground text at .kind ≡ 7 → ⊥) → tokenRead ground text at .kind ≡ mark → r ≡ goneSeparator (tokenRead ground text at .next) true → Separates ground text at mark r
+  comma : tokenRead ground text at .kind ≡ 7 → r ≡ goneSeparator (past (tokenRead ground text at .place)) false → Separates ground text at mark r
+  last : (tokenRead ground text at .kind ≡ 7 → ⊥) → tokenRead ground text at .kind ≡ mark → r ≡ goneSeparator (past (tokenRead ground text at .place)) true → Separates ground text at mark r
   neither : (tokenRead ground text at .kind ≡ 7 → ⊥) → (tokenRead ground text at .kind ≡ mark → ⊥) → r ≡ stoppedSeparator (tokenRead ground text at .place) → Separates ground text at mark r

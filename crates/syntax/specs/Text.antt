@@ -1,17 +1,17 @@
 -- The tokens of a text as the grammar's, each with its place.
 use mathlib.Core.Bool.{Bool, not}
 use mathlib.Core.List.{List, map}
-use Prim.Native.Nat.{ℕ}
+use Prim.Native.Nat.{ℕ, _+_}
 use lib.ListN.{length, getD}
 use Rattle.tokens.specs.declared.kind.Kind.{Kind}
 use Rattle.tokens.specs.declared.kind.Kind.the-variants.{Name, Not, Variable, Anonymous, Number, Open, Close, Comma, Dot, If, Minus, Plus, Times, Equal, Unequal, AlsoUnequal, Less, AtMost, Greater, AtLeast, End, Stray}
-use Rattle.tokens.specs.declared.Place.{Place}
+use Rattle.tokens.specs.declared.place.Place.{Place}
 use Rattle.tokens.specs.declared.Token.{Token as TextToken}
 use Rattle.tokens.specs.Kind.{kindNumber}
 use Rattle.tokens.specs.Number.{decimal}
 use Rattle.tokens.specs.Token.{nextToken}
-use Rattle.tokens.specs.Tokens.{part, after, tokensFrom}
-use Rattle.tokens.specs.Places.{place-from}
+use Rattle.tokens.specs.Tokens.{part, tokensFrom}
+use Rattle.tokens.specs.Place.{place-from}
 use Rattle.reading.specs.Reading.{Placed}
 use Rattle.meaning.specs.Domain.{equal, unequal, less, at-most, greater, at-least}
 use Rattle.meaning.specs.Rules.{Bytes}
@@ -52,8 +52,12 @@ placed-from ground text at = map (placed-token text) (tokensFrom (not ground) te
 
 -- the end of a text, empty
 abbrev pub end-of : Bytes → Place
-end-of text = place-from (length text) 0
+end-of text = place-from text (length text) 0
 
 -- the first token at or after a place, as the productions see it
 abbrev pub tokenRead : Bool → Bytes → ℕ → TokenRead
-tokenRead ground text at = let t = nextToken (not ground) text at in record { kind = kindNumber (t .kind); place = t .place; next = after t }
+tokenRead ground text at = let t = nextToken (not ground) text at in record { kind = kindNumber (t .kind); place = t .place }
+
+-- where reading goes on behind it
+abbrev pub next-of : TokenRead → ℕ
+next-of t = t .place .start + t .place .len

@@ -1,27 +1,27 @@
 // The token at a place, as the productions see it, and how far reading has got.
 ghost use mathlib.Core.Path.{_≡_};
+ghost use Rattle.tokens.specs.Place.{Stands};
 ghost use Rattle.syntax.specs.Text.{tokenRead};
-use tokens::Place;
 use tokens::kind::kind_number;
 use tokens::next_token;
+use tokens::place::Place;
 
-// A token: the number of its kind, where it stands, and where reading goes on behind it.
+// A token: the number of its kind, and where it stands. Reading goes on behind it.
 pub struct TokenRead {
     pub kind: u8,
     pub place: Place,
-    pub next: usize,
 }
 
 // How far reading has got: code 0 and where it goes on, or the number of a refusal and its place.
 pub struct Progress {
     pub code: u8,
     pub place: Place,
-    pub next: usize,
 }
 
 // The first token at or after `at`. `ground`: the text is a facts line, where neither a comment nor a newline may stand.
-pub fn token_at(text: &[u8], at: usize, ground: bool) -> TokenRead
-    ensures { λ r. ⌜ r ≡ tokenRead ground (now (text .entry)) at ⌝ }
+pub fn token_at(text: &[u8], at: Place, ground: bool) -> TokenRead
+    requires { ⌜ Stands (now text) at ⌝ }
+    ensures { λ r. ⌜ r ≡ tokenRead ground (now (text .entry)) (at .start) ⌝ }
 {
     let token = next_token(text, at, !ground);
     let kind = token.kind;
@@ -29,6 +29,5 @@ pub fn token_at(text: &[u8], at: usize, ground: bool) -> TokenRead
     TokenRead {
         kind: kind_number(kind),
         place,
-        next: place.start + place.len,
     }
 }

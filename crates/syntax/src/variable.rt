@@ -4,16 +4,16 @@ ghost use mathlib.Core.List.{map};
 ghost use Prim.Native.Nat.{_*_, _≤_};
 ghost use lib.ListN.{length};
 ghost use Rattle.tokens.specs.Tokens.{part};
-ghost use Rattle.tokens.specs.Places.{places-in};
+ghost use Rattle.tokens.specs.Places.{place-stride, places-in};
 ghost use Rattle.syntax.specs.Variables.{first-among};
-use tokens::Place;
 use tokens::parts::part;
 use tokens::parts::same_bytes;
+use tokens::place::Place;
 use tokens::places::place_in;
 
 // Which of the `met` variables has the same bytes as `place`: the number of the first, or how many there are.
 pub fn variable_number(text: &[u8], place: Place, variables: &[u32], met: usize) -> usize
-    requires { ⌜ met * 2 ≤ length (now variables) ⌝ }
+    requires { ⌜ met * place-stride ≤ length (now variables) ⌝ }
     ensures { λ r. ⌜ r ≡ first-among (part (now (text .entry)) place) (map (part (now (text .entry))) (places-in (now (variables .entry)) met)) ⌝ }
 {
     let name = part(text, place);

@@ -1,7 +1,7 @@
 // The numbers of refusal that a token gets, and that of a word.
 ghost use mathlib.Core.Path.{_≡_};
 ghost use Rattle.syntax.specs.Terms.{wordCode};
-use tokens::Place;
+use tokens::place::Place;
 use tokens::sizes::MOST_NAME;
 
 // A token that the grammar can't have there.

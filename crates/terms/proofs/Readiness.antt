@@ -5,6 +5,7 @@ use mathlib.Core.List.{List}
 use Prim.Native.Nat.{ℕ, _-_, _≤_}
 use native.Mathlib.Omega.{arith}
 use lib.ListN.{length}
+use Rattle.tokens.specs.Place.{Stands, past}
 use Rattle.tokens.specs.Places.{places-in}
 use Rattle.tokens.proofs.PlaceTables.{places-length}
 use Rattle.meaning.specs.Rules.{Bytes}
@@ -18,7 +19,7 @@ use Rattle.terms.specs.Cursors.{ReadyCursor, met-before, onward}
 
 -- the cursor behind a token
 abbrev pub behind-token : Cursor → TokenRead → Cursor
-behind-token k t = onward k (t .next) false (k .met)
+behind-token k t = onward k (past (t .place)) false (k .met)
 
 -- the variables met are no more than a rule may have
 pub met-fits : {program output text : Bytes} {names variables : List ℕ} {k : Cursor} → ReadyCursor program output text names variables k → Fits (met-before variables k)
@@ -29,13 +30,13 @@ fits-met variables n f = omega (arith, places-length variables n)
 
 module _ {program output text : Bytes} {names variables : List ℕ} {k : Cursor} (ready : ReadyCursor program output text names variables k) where
   -- there is room behind what has been read
-  pub ready-on : {names′ variables′ : List ℕ} (k′ : Cursor) → k′ .base ≡ k .base → Grows program output names (k′ .at - k .at) names′ → k .at ≤ k′ .at → k′ .at ≤ length text → k′ .met ≤ 16 → length variables′ ≡ length variables → ReadyCursor program output text names′ variables′ k′
-  ready-on k′ same grows forward inside few long =
+  pub ready-on : {names′ variables′ : List ℕ} (k′ : Cursor) → k′ .base ≡ k .base → Grows program output names (k′ .at .start - k .at .start) names′ → k .at .start ≤ k′ .at .start → Stands text (k′ .at) → k′ .met ≤ 16 → length variables′ ≡ length variables → ReadyCursor program output text names′ variables′ k′
+  ready-on k′ same grows forward stands few long =
       record {
         source = rw same (ready .source);
         short = ready .short;
-        inside = inside;
-        room = room-after program output grows (length text - k′ .at) (ready .room) (omega arith);
+        stands = stands;
+        room = room-after program output grows (length text - k′ .at .start) (ready .room) (omega (arith, stands .inside));
         few = few;
         long = omega (arith, ready .long);
       }

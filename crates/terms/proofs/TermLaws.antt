@@ -7,14 +7,15 @@ use native.Mathlib.Omega.{arith}
 use lib.Dec.{leb}
 use lib.ListN.{length}
 use borrow.Author.Tests.{leb-true, lt-leb, le-leb, ne-eqb}
-use Rattle.tokens.specs.declared.Place.{Place}
+use Rattle.tokens.specs.declared.place.Place.{Place}
 use Rattle.tokens.specs.Kind.{kindNumber, isEnd}
 use Rattle.tokens.specs.Number.{capped, decimal}
+use Rattle.tokens.specs.Place.{past}
 use Rattle.tokens.specs.Places.{places-in, with-place}
 use Rattle.tokens.specs.Token.{nextToken}
 use Rattle.tokens.specs.Tokens.{part}
 use Rattle.tokens.proofs.Next.{not-empty}
-use Rattle.tokens.proofs.PlaceTables.{places-length, places-more}
+use Rattle.tokens.proofs.PlaceTables.{places-length, places-more, stands-storable}
 use Rattle.meaning.specs.Rules.{Bytes}
 use Rattle.meaning.specs.Values.{number, in-range}
 use Rattle.grammar.specs.Sizes.{greatest-number}
@@ -22,17 +23,17 @@ use Rattle.codes.specs.Codes.{first-name, number-code}
 use Rattle.names.specs.declared.Found.the-variants.{At}
 use Rattle.names.specs.Numbering.{Interns}
 use Rattle.syntax.specs.declared.token.TokenRead.{TokenRead}
-use Rattle.syntax.specs.Text.{tokenRead}
+use Rattle.syntax.specs.Text.{tokenRead, next-of}
 use Rattle.syntax.specs.Variables.{Fits, first-among}
 use Rattle.syntax.specs.Fills.{Fills, read, stopped}
 use Rattle.syntax.specs.Terms.{term-in, signed, wordCode}
-use Rattle.syntax.proofs.Tokens.{place-within, part-length, forward}
+use Rattle.syntax.proofs.Tokens.{place-within, place-stands, part-length, forward}
 use Rattle.syntax.proofs.Terms as laws
 use Rattle.rows.proofs.Growth.{grows-none}
 use Rattle.rows.proofs.Terms.{coded-number-term, coded-variable-term, name-coded}
 use Rattle.terms.specs.declared.cursor.Cursor.{Cursor}
 use Rattle.terms.specs.declared.term.TermRead.{TermRead}
-use Rattle.terms.specs.Cursors.{ReadyCursor, met-before}
+use Rattle.terms.specs.Cursors.{variables-size, ReadyCursor, met-before}
 use Rattle.terms.specs.Terms.{ReadsTerm, Nameless, ReadsNegative, Puttable, ReadsNameless, stoppedTerm, goneTerm, numberTerm}
 use Rattle.terms.proofs.Readiness.{met-fits, codes-wider}
 
@@ -57,7 +58,7 @@ module _ (text : Bytes) (t : TokenRead) (negative over : Bool) (met : ℕ) (d : 
   unfolding numberTerm
   number-over h o = rw (← value-is, le-leb n greatest-number h, o)
 
-  pub number-small : n ≤ greatest-number → over ≡ false → (c : ℕ) → c ≡ number-code (signed negative n) → numberTerm text t negative over met ≡ goneTerm c (t .next) met
+  pub number-small : n ≤ greatest-number → over ≡ false → (c : ℕ) → c ≡ number-code (signed negative n) → numberTerm text t negative over met ≡ goneTerm c (past (t .place)) met
   unfolding numberTerm
   number-small h o c ec = rw (← value-is, le-leb n greatest-number h, o, ec)
 
@@ -70,7 +71,7 @@ module _ (ground : Bool) (text : Bytes) (at : ℕ) (t : TokenRead) (et : t ≡ t
   unfolding numberTerm
   term-number over v fits met r er = rw er (go (leb value greatest-number) refl over refl)
     where
-      go : (b : Bool) → leb value greatest-number ≡ b → (o : Bool) → over ≡ o → let r′ = cond b (cond o (stoppedTerm 4 (t .place) met) (goneTerm (number-code (signed false value)) (t .next) met)) (stoppedTerm 3 (t .place) met) in Fills (term-in ground over) over text at v (r′ .progress) v (Nameless (r′ .number))
+      go : (b : Bool) → leb value greatest-number ≡ b → (o : Bool) → over ≡ o → let r′ = cond b (cond o (stoppedTerm 4 (t .place) met) (goneTerm (number-code (signed false value)) (past (t .place)) met)) (stoppedTerm 3 (t .place) met) in Fills (term-in ground over) over text at v (r′ .progress) v (Nameless (r′ .number))
       go true q true o = laws.term-many ground over text at t et v ek q o
       go true q false o = laws.term-small ground over text at t et v ek q fits o (λ names. coded-number-term names _ _ refl (signed-range false _ (leb-true _ 1_000_000_000 q)))
       go false q o e = laws.term-big ground over text at t et v ek q
@@ -80,7 +81,7 @@ module _ (ground : Bool) (text : Bytes) (at : ℕ) (t : TokenRead) (et : t ≡ t
   unfolding numberTerm
   negative-number met r er = rw er (go (leb value greatest-number) refl)
     where
-      go : (b : Bool) → leb value greatest-number ≡ b → ReadsNegative ground text at met (cond b (goneTerm (number-code (signed true value)) (t .next) met) (stoppedTerm 3 (t .place) met))
+      go : (b : Bool) → leb value greatest-number ≡ b → ReadsNegative ground text at met (cond b (goneTerm (number-code (signed true value)) (past (t .place)) met) (stoppedTerm 3 (t .place) met))
       go true q = record { same-met = refl; reads = λ v fits. laws.negative-small ground false text at t et v ek q fits (λ names. coded-number-term names _ _ refl (signed-range true _ (leb-true _ 1_000_000_000 q))) }
       go false q = record { same-met = refl; reads = λ v fits. laws.negative-big ground false text at t et v ek q }
 
@@ -106,7 +107,7 @@ module _ (over : Bool) (text : Bytes) (at : ℕ) (t : TokenRead) (et : t ≡ tok
   how-many : length v ≡ met
   how-many = places-length variables met
 
-  more : 32 ≤ length variables → met < 16 → (variables′ : List ℕ) → variables′ ≡ with-place variables met (t .place) → places-in variables′ (met + 1) ≡ v ++ (t .place ∷ [])
+  more : variables-size ≤ length variables → met < 16 → (variables′ : List ℕ) → variables′ ≡ with-place variables met (t .place) → places-in variables′ (met + 1) ≡ v ++ (t .place ∷ [])
   more long h variables′ e = rw e (places-more variables met (t .place) (omega arith))
 
   module _ (ek : t .kind ≡ 2) where
@@ -118,10 +119,10 @@ module _ (over : Bool) (text : Bytes) (at : ℕ) (t : TokenRead) (et : t ≡ tok
       variable-many variables′ k l er = rw er (laws.variable-many over text at t et v ek n en (omega (arith, how-many)) l)
 
       module _ (code : ℕ) (ec : code ≡ wordCode (t .place .len) over) (z : code ≡ 0) where
-        pub variable-known : n < met → r ≡ goneTerm n (t .next) met → ReadsNameless false over text at variables met r variables
+        pub variable-known : n < met → r ≡ goneTerm n (past (t .place)) met → ReadsNameless false over text at variables met r variables
         variable-known k er = rw er (laws.variable-known over text at t et v ek n en code ec z (λ names. coded-variable-term names n (omega arith)) (omega (arith, how-many)) (omega (arith, how-many)))
 
-        pub variable-new : 32 ≤ length variables → met ≤ n → n < 16 → (variables′ : List ℕ) → variables′ ≡ with-place variables met (t .place) → r ≡ goneTerm n (t .next) (met + 1) → ReadsNameless false over text at variables met r variables′
+        pub variable-new : variables-size ≤ length variables → met ≤ n → n < 16 → (variables′ : List ℕ) → variables′ ≡ with-place variables met (t .place) → r ≡ goneTerm n (past (t .place)) (met + 1) → ReadsNameless false over text at variables met r variables′
         variable-new long k q variables′ ev er = rw (er, more long (omega arith) variables′ ev) (laws.variable-new over text at t et v ek n en code ec z (λ names. coded-variable-term names n (omega arith)) (omega (arith, how-many)) (λ h. omega arith))
 
   module _ (ek : t .kind ≡ 3) where
@@ -131,19 +132,19 @@ module _ (over : Bool) (text : Bytes) (at : ℕ) (t : TokenRead) (et : t ≡ tok
     pub anonymous-many : (variables′ : List ℕ) → 16 ≤ met → r ≡ stoppedTerm 4 (t .place) met → ReadsNameless false over text at variables met r variables′
     anonymous-many variables′ l er = rw er (laws.anonymous-many over text at t et v ek (omega (arith, how-many)))
 
-    pub anonymous-new : 32 ≤ length variables → over ≡ false → met < 16 → (variables′ : List ℕ) → variables′ ≡ with-place variables met (t .place) → r ≡ goneTerm met (t .next) (met + 1) → ReadsNameless false over text at variables met r variables′
+    pub anonymous-new : variables-size ≤ length variables → over ≡ false → met < 16 → (variables′ : List ℕ) → variables′ ≡ with-place variables met (t .place) → r ≡ goneTerm met (past (t .place)) (met + 1) → ReadsNameless false over text at variables met r variables′
     anonymous-new long o q variables′ ev er = rw (er, more long (omega arith) variables′ ev) (laws.anonymous-new over text at t et v ek o (omega (arith, how-many)) (λ names. rw how-many (coded-variable-term names met (omega arith))))
 
 -- ---- any term
 
 -- the place of its token fits the variables' table
-pub puttable : (program output text : Bytes) (names variables : List ℕ) (k : Cursor) → ReadyCursor program output text names variables k → (t : TokenRead) → t ≡ tokenRead (k .ground) text (k .at) → Puttable variables t (k .met)
-puttable program output text names variables k ready t et = let w = place-within (k .ground) text (k .at) t et in let h = ready .short in record { few = ready .few; long = ready .long; start-fits = omega arith; len-fits = omega arith }
+pub puttable : (program output text : Bytes) (names variables : List ℕ) (k : Cursor) → ReadyCursor program output text names variables k → (t : TokenRead) → t ≡ tokenRead (k .ground) text (k .at .start) → Puttable variables t (k .met)
+puttable program output text names variables k ready t et = let w = place-within (k .ground) text (k .at .start) t et in let h = ready .short in record { few = ready .few; long = ready .long; fits = stands-storable text (t .place) (place-stands (k .ground) text (k .at .start) t et) w (ready .short) }
 
 -- a term that is no name
-module _ (text : Bytes) (variables : List ℕ) (k : Cursor) (few : k .met ≤ 16) (t : TokenRead) (et : t ≡ tokenRead (k .ground) text (k .at)) (r : TermRead) where
+module _ (text : Bytes) (variables : List ℕ) (k : Cursor) (few : k .met ≤ 16) (t : TokenRead) (et : t ≡ tokenRead (k .ground) text (k .at .start)) (r : TermRead) where
   abbrev Reads : List ℕ → Type 0
-  Reads variables′ = ReadsNameless (k .ground) (k .over) text (k .at) variables (k .met) r variables′
+  Reads variables′ = ReadsNameless (k .ground) (k .over) text (k .at .start) variables (k .met) r variables′
 
   abbrev vs : List Place
   vs = met-before variables k
@@ -152,47 +153,47 @@ module _ (text : Bytes) (variables : List ℕ) (k : Cursor) (few : k .met ≤ 16
   fits = omega (arith, places-length variables (k .met))
 
   -- a variable stands in a program only
-  pub in-program : (variables′ : List ℕ) → k .ground ≡ false → (t ≡ tokenRead false text (k .at) → ReadsNameless false (k .over) text (k .at) variables (k .met) r variables′) → Reads variables′
-  in-program variables′ g f = subst (λ (b : Bool). t ≡ tokenRead b text (k .at) → ReadsNameless b (k .over) text (k .at) variables (k .met) r variables′) (inv g) f et
+  pub in-program : (variables′ : List ℕ) → k .ground ≡ false → (t ≡ tokenRead false text (k .at .start) → ReadsNameless false (k .over) text (k .at .start) variables (k .met) r variables′) → Reads variables′
+  in-program variables′ g f = subst (λ (b : Bool). t ≡ tokenRead b text (k .at .start) → ReadsNameless b (k .over) text (k .at .start) variables (k .met) r variables′) (inv g) f et
 
   pub number-goes : t .kind ≡ 4 → r ≡ numberTerm text t false (k .over) (k .met) → Reads variables
   unfolding numberTerm
-  number-goes ek er = rw (ap (λ m. places-in variables m) (same er)) (term-number (k .ground) text (k .at) t et ek (k .over) vs fits (k .met) r er)
+  number-goes ek er = rw (ap (λ m. places-in variables m) (same er)) (term-number (k .ground) text (k .at .start) t et ek (k .over) vs fits (k .met) r er)
     where
       same : r ≡ numberTerm text t false (k .over) (k .met) → r .met ≡ k .met
       same e = rw e (go (leb (capped (decimal (part text (t .place)))) greatest-number) (k .over))
         where
-          go : (b o : Bool) → cond b (cond o (stoppedTerm 4 (t .place) (k .met)) (goneTerm (number-code (signed false (capped (decimal (part text (t .place)))))) (t .next) (k .met))) (stoppedTerm 3 (t .place) (k .met)) .met ≡ k .met
+          go : (b o : Bool) → cond b (cond o (stoppedTerm 4 (t .place) (k .met)) (goneTerm (number-code (signed false (capped (decimal (part text (t .place)))))) (past (t .place)) (k .met))) (stoppedTerm 3 (t .place) (k .met)) .met ≡ k .met
           go true true = refl
           go true false = refl
           go false o = refl
 
   -- the number behind a minus
-  pub minus-goes : t .kind ≡ 10 → k .over ≡ false → ReadsNegative (k .ground) text (t .next) (k .met) r → Reads variables
-  minus-goes ek o g = rw (g .same-met) (laws.minus-goes (k .ground) (k .over) text (k .at) t et vs ek o (λ a s. s) (g .reads vs fits))
+  pub minus-goes : t .kind ≡ 10 → k .over ≡ false → ReadsNegative (k .ground) text (next-of t) (k .met) r → Reads variables
+  minus-goes ek o g = rw (g .same-met) (laws.minus-goes (k .ground) (k .over) text (k .at .start) t et vs ek o (λ a s. s) (g .reads vs fits))
 
   -- refusals
 
   pub minus-over : (variables′ : List ℕ) → t .kind ≡ 10 → k .over ≡ true → r ≡ stoppedTerm 4 (t .place) (k .met) → Reads variables′
-  minus-over variables′ ek o er = rw er (laws.minus-over (k .ground) (k .over) text (k .at) t et vs ek o)
+  minus-over variables′ ek o er = rw er (laws.minus-over (k .ground) (k .over) text (k .at .start) t et vs ek o)
 
   module _ (variables′ : List ℕ) (a : t .kind ≡ 0 → ⊥) (b : t .kind ≡ 4 → ⊥) (c : t .kind ≡ 10 → ⊥) (er : r ≡ stoppedTerm 2 (t .place) (k .met)) where
     pub ground-wrong : k .ground ≡ true → Reads variables′
-    ground-wrong g = rw er (laws.ground-wrong (k .ground) (k .over) text (k .at) t et vs a b c g)
+    ground-wrong g = rw er (laws.ground-wrong (k .ground) (k .over) text (k .at .start) t et vs a b c g)
 
     pub free-wrong : k .ground ≡ false → (t .kind ≡ 2 → ⊥) → (t .kind ≡ 3 → ⊥) → Reads variables′
-    free-wrong g d e = rw er (laws.free-wrong (k .ground) (k .over) text (k .at) t et vs a b c g d e)
+    free-wrong g d e = rw er (laws.free-wrong (k .ground) (k .over) text (k .at .start) t et vs a b c g d e)
 
 module _ (program output text : Bytes) (names variables : List ℕ) (k : Cursor) (ready : ReadyCursor program output text names variables k) (r : TermRead) where
   -- a term that is no name leaves the names as they are
-  pub nameless : (variables′ : List ℕ) → ReadsNameless (k .ground) (k .over) text (k .at) variables (k .met) r variables′ → ReadsTerm program output text names variables k r names variables′
+  pub nameless : (variables′ : List ℕ) → ReadsNameless (k .ground) (k .over) text (k .at .start) variables (k .met) r variables′ → ReadsTerm program output text names variables k r names variables′
   nameless variables′ (read c b n o f x s m w) = read c b n o f x (record { grows = grows-none program output names _ (ready .room .in-order); coded = s _ }) m w
   nameless variables′ (stopped c w) = stopped c w
 
-  module _ (t : TokenRead) (et : t ≡ tokenRead (k .ground) text (k .at)) (ek : t .kind ≡ 0) (code : ℕ) (ec : code ≡ wordCode (t .place .len) (k .over)) where
+  module _ (t : TokenRead) (et : t ≡ tokenRead (k .ground) text (k .at .start)) (ek : t .kind ≡ 0) (code : ℕ) (ec : code ≡ wordCode (t .place .len) (k .over)) where
     pub name-stops : (names′ : List ℕ) → (code ≡ 0 → ⊥) → r ≡ stoppedTerm code (t .place) (k .met) → ReadsTerm program output text names variables k r names′ variables
-    name-stops names′ n er = rw er (laws.name-stops (k .ground) (k .over) text (k .at) t et (met-before variables k) ek code ec n)
+    name-stops names′ n er = rw er (laws.name-stops (k .ground) (k .over) text (k .at .start) t et (met-before variables k) ek code ec n)
 
     -- a name is put into the table of names
-    pub name-goes : code ≡ 0 → (names′ : List ℕ) (i : ℕ) → Interns program output names (part text (t .place)) names′ (At i) → r ≡ goneTerm (first-name + i) (t .next) (k .met) → ReadsTerm program output text names variables k r names′ variables
-    name-goes z names′ i h er = rw er (laws.name-goes (k .ground) (k .over) text (k .at) t et (met-before variables k) ek code ec z (met-fits ready) (codes-wider _ (let l = forward (k .ground) text (k .at) t et (λ q. let y : _≡_ {A = ℕ} 0 20 = inv ek ∙ q in omega arith) in omega arith) (name-coded program output names _ names′ i h)))
+    pub name-goes : code ≡ 0 → (names′ : List ℕ) (i : ℕ) → Interns program output names (part text (t .place)) names′ (At i) → r ≡ goneTerm (first-name + i) (past (t .place)) (k .met) → ReadsTerm program output text names variables k r names′ variables
+    name-goes z names′ i h er = rw er (laws.name-goes (k .ground) (k .over) text (k .at .start) t et (met-before variables k) ek code ec z (met-fits ready) (codes-wider _ (let l = forward (k .ground) text (k .at .start) t et (λ q. let y : _≡_ {A = ℕ} 0 20 = inv ek ∙ q in omega arith) in omega arith) (name-coded program output names _ names′ i h)))

@@ -2,12 +2,13 @@
 use mathlib.Core.Path.{_≡_}
 use mathlib.Core.Bool.{Bool, false, cond}
 use mathlib.Core.List.{List}
-use Prim.Native.Nat.{ℕ, _-_, _≤_, _<_}
+use Prim.Native.Nat.{ℕ, _-_, _≤_}
 use lib.Dec.{leb}
 use lib.ListN.{length}
-use Rattle.tokens.specs.declared.Place.{Place}
+use Rattle.tokens.specs.declared.place.Place.{Place}
 use Rattle.tokens.specs.Number.{capped, decimal}
-use Rattle.tokens.specs.Places.{number-limit, places-in}
+use Rattle.tokens.specs.Place.{past}
+use Rattle.tokens.specs.Places.{places-in, Storable}
 use Rattle.tokens.specs.Tokens.{part}
 use Rattle.meaning.specs.Rules.{Bytes, Term}
 use Rattle.meaning.specs.Values.{Value}
@@ -21,19 +22,18 @@ use Rattle.syntax.specs.Terms.{term-in, negative-in, signed}
 use Rattle.rows.specs.Coding.{CodedTerm, Codes}
 use Rattle.terms.specs.declared.cursor.Cursor.{Cursor}
 use Rattle.terms.specs.declared.term.TermRead.{TermRead}
-use Rattle.terms.specs.Cursors.{ReadyCursor, met-before}
+use Rattle.terms.specs.Cursors.{variables-size, ReadyCursor, ReadyToken, met-before}
 
 -- the term's number, beside the table of names afterwards
 abbrev pub ReadsTerm : Bytes → Bytes → Bytes → List ℕ → List ℕ → Cursor → TermRead → List ℕ → List ℕ → Type 0
-ReadsTerm program output text names variables k r names′ variables′ = Fills (term-in (k .ground) (k .over)) (k .over) text (k .at) (met-before variables k) (r .progress) (places-in variables′ (r .met)) (λ (t : Term Value). Codes program output names (r .progress .next - k .at) (λ ns. CodedTerm ns (r .number) t) names′)
+ReadsTerm program output text names variables k r names′ variables′ = Fills (term-in (k .ground) (k .over)) (k .over) text (k .at .start) (met-before variables k) (r .progress) (places-in variables′ (r .met)) (λ (t : Term Value). Codes program output names (r .progress .place .start - k .at .start) (λ ns. CodedTerm ns (r .number) t) names′)
 
 -- ---- a name
 
 -- what is asked: the cursor stands at it, beside some table of variables
 pub record ReadyName (program output text : Bytes) (names : List ℕ) (k : Cursor) (t : TokenRead) : Type 0 where
   pub variables : List ℕ
-  pub ready : ReadyCursor program output text names variables k
-  pub is-token : t ≡ tokenRead (k .ground) text (k .at)
+  pub ready : ReadyToken program output text names variables k t
   pub is-name : t .kind ≡ 0
 
 -- whatever variables have been met, they stay as they are
@@ -56,9 +56,8 @@ pub record ReadsNegative (ground : Bool) (text : Bytes) (at met : ℕ) (r : Term
 -- what is asked: a place that fits the table, and room for the variable
 pub record Puttable (variables : List ℕ) (t : TokenRead) (met : ℕ) : Type 0 where
   pub few : met ≤ most-variables
-  pub long : 32 ≤ length variables
-  pub start-fits : t .place .start < number-limit
-  pub len-fits : t .place .len < number-limit
+  pub long : variables-size ≤ length variables
+  pub fits : Storable (t .place)
 
 -- a term that is no name, and so leaves the names as they are
 abbrev pub ReadsNameless : Bool → Bool → Bytes → ℕ → List ℕ → ℕ → TermRead → List ℕ → Type 0
@@ -76,7 +75,7 @@ ReadsAnonymous variables t over met r variables′ = (text : Bytes) (at : ℕ) �
 -- what is asked: the cursor stands at its first token, whose place fits the variables' table
 pub record ReadyNameless (text : Bytes) (variables : List ℕ) (k : Cursor) (t : TokenRead) : Type 0 where
   pub puttable : Puttable variables t (k .met)
-  pub is-token : t ≡ tokenRead (k .ground) text (k .at)
+  pub is-token : t ≡ tokenRead (k .ground) text (k .at .start)
   pub no-name : t .kind ≡ 0 → ⊥
 
 -- ---- what the parts of it answer
@@ -84,11 +83,11 @@ pub record ReadyNameless (text : Bytes) (variables : List ℕ) (k : Cursor) (t :
 abbrev pub stoppedTerm : ℕ → Place → ℕ → TermRead
 stoppedTerm code place met = record { progress = halted code place; number = 0; met = met }
 
-abbrev pub goneTerm : ℕ → ℕ → ℕ → TermRead
+abbrev pub goneTerm : ℕ → Place → ℕ → TermRead
 goneTerm number next met = record { progress = going next; number = number; met = met }
 
 -- a number's code; 3 where it is over its size, and else 4 where it is one too many
 unfoldable pub numberTerm : Bytes → TokenRead → Bool → Bool → ℕ → TermRead
 numberTerm text t negative over met =
     let n = capped (decimal (part text (t .place))) in
-    cond (leb n greatest-number) (cond over (stoppedTerm 4 (t .place) met) (goneTerm (number-code (signed negative n)) (t .next) met)) (stoppedTerm 3 (t .place) met)
+    cond (leb n greatest-number) (cond over (stoppedTerm 4 (t .place) met) (goneTerm (number-code (signed negative n)) (past (t .place)) met)) (stoppedTerm 3 (t .place) met)

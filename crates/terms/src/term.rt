@@ -1,6 +1,8 @@
 // A term, read as its number: a name's number in the table of names, a number's code, or a variable's number in the rule.
 ghost use mathlib.Core.Path.{_≡_};
-ghost use Rattle.terms.specs.Cursors.{ReadyCursor};
+ghost use Rattle.tokens.specs.Place.{Stands, Countable};
+ghost use Rattle.syntax.specs.Text.{next-of};
+ghost use Rattle.terms.specs.Cursors.{ReadyToken};
 ghost use Rattle.terms.specs.Terms.{stoppedTerm, goneTerm, numberTerm, Puttable, ReadyName, ReadyNameless, ReadsName, ReadsNameless, ReadsVariable, ReadsAnonymous, ReadsNegative, ReadsTerm};
 use crate::cursor::Cursor;
 use codes::FIRST_NAME;
@@ -14,8 +16,6 @@ use syntax::word::BIG;
 use syntax::word::OVER;
 use syntax::word::WRONG;
 use syntax::word::word_code;
-use tokens::NOWHERE;
-use tokens::Place;
 use tokens::kind::ANONYMOUS;
 use tokens::kind::MINUS;
 use tokens::kind::NAME;
@@ -23,6 +23,8 @@ use tokens::kind::NUMBER;
 use tokens::kind::VARIABLE;
 use tokens::number::value;
 use tokens::parts::part;
+use tokens::place::Place;
+use tokens::place::past;
 use tokens::places::put_place;
 use tokens::sizes::MOST_NUMBER;
 use tokens::sizes::MOST_VARIABLES;
@@ -38,24 +40,19 @@ fn stopped(code: u8, place: Place, met: usize) -> TermRead
     ensures { λ r. ⌜ r ≡ stoppedTerm code place met ⌝ }
 {
     TermRead {
-        progress: Progress {
-            code,
-            place,
-            next: 0,
-        },
+        progress: Progress { code, place },
         number: 0,
         met,
     }
 }
 
-fn gone(number: u64, next: usize, met: usize) -> TermRead
+fn gone(number: u64, next: Place, met: usize) -> TermRead
     ensures { λ r. ⌜ r ≡ goneTerm number next met ⌝ }
 {
     TermRead {
         progress: Progress {
             code: 0,
-            place: NOWHERE,
-            next,
+            place: next,
         },
         number,
         met,
@@ -64,6 +61,7 @@ fn gone(number: u64, next: usize, met: usize) -> TermRead
 
 // The number that `token` is.
 fn number_term(text: &[u8], token: TokenRead, negative: bool, over: bool, met: usize) -> TermRead
+    requires { ⌜ Countable (token .place) (next-of token) ⌝ }
     ensures { λ r. ⌜ r ≡ numberTerm (now (text .entry)) token negative over met ⌝ }
 {
     let number = value(part(text, token.place));
@@ -73,7 +71,7 @@ fn number_term(text: &[u8], token: TokenRead, negative: bool, over: bool, met: u
     if over {
         return stopped(OVER, token.place, met);
     }
-    gone(number_code(negative, number), token.next, met)
+    gone(number_code(negative, number), past(token.place), met)
 }
 
 // The variable that `token` is: one met before, or the next one where there is room.
@@ -93,13 +91,13 @@ fn variable_term(
     }
     let number = variable_number(text, token.place, &*variables, met);
     if number < met {
-        return gone(number as u64, token.next, met);
+        return gone(number as u64, past(token.place), met);
     }
     if MOST_VARIABLES <= number {
         return stopped(OVER, token.place, met);
     }
     put_place(variables, met, token.place);
-    gone(number as u64, token.next, met + 1)
+    gone(number as u64, past(token.place), met + 1)
 }
 
 // The `_` that `token` is: a variable of its own, where there is room.
@@ -114,12 +112,13 @@ fn anonymous_term(variables: &mut [u32], token: TokenRead, over: bool, met: usiz
         return stopped(OVER, token.place, met);
     }
     put_place(variables, met, token.place);
-    gone(met as u64, token.next, met + 1)
+    gone(met as u64, past(token.place), met + 1)
 }
 
 // The number behind a minus.
-pub fn negative_number(text: &[u8], at: usize, ground: bool, met: usize) -> TermRead
-    ensures { λ r. ⌜ ReadsNegative ground (now (text .entry)) at met r ⌝ }
+pub fn negative_number(text: &[u8], at: Place, ground: bool, met: usize) -> TermRead
+    requires { ⌜ Stands (now text) at ⌝ }
+    ensures { λ r. ⌜ ReadsNegative ground (now (text .entry)) (at .start) met r ⌝ }
 {
     let token = token_at(text, at, ground);
     if token.kind == NUMBER {
@@ -145,13 +144,13 @@ fn name_term<'a>(
         return stopped(code, token.place, cursor.met);
     }
     let number = name_number(program, output, text, names, cursor.base, token.place);
-    gone(FIRST_NAME + number as u64, token.next, cursor.met)
+    gone(FIRST_NAME + number as u64, past(token.place), cursor.met)
 }
 
 // The term that begins with `token`, which is no name, where the cursor stands.
 fn nameless_term(text: &[u8], variables: &mut [u32], cursor: Cursor, token: TokenRead) -> TermRead
     requires { ⌜ ReadyNameless (now text) (now variables) cursor token ⌝ }
-    ensures { λ r. ⌜ ReadsNameless (cursor .ground) (cursor .over) (now (text .entry)) (cursor .at) (now (variables .entry)) (cursor .met) r (now (variables .exit)) ⌝ }
+    ensures { λ r. ⌜ ReadsNameless (cursor .ground) (cursor .over) (now (text .entry)) (cursor .at .start) (now (variables .entry)) (cursor .met) r (now (variables .exit)) ⌝ }
 {
     let over = cursor.over;
     let met = cursor.met;
@@ -162,7 +161,7 @@ fn nameless_term(text: &[u8], variables: &mut [u32], cursor: Cursor, token: Toke
         if over {
             return stopped(OVER, token.place, met);
         }
-        return negative_number(text, token.next, cursor.ground, met);
+        return negative_number(text, past(token.place), cursor.ground, met);
     }
     if cursor.ground {
         return stopped(WRONG, token.place, met);
@@ -184,11 +183,11 @@ pub fn term_at<'a>(
     names: &mut [u32],
     variables: &mut [u32],
     cursor: Cursor,
+    token: TokenRead,
 ) -> TermRead
-    requires { ⌜ ReadyCursor (now program) (now output) (now text) (now names) (now variables) cursor ⌝ }
+    requires { ⌜ ReadyToken (now program) (now output) (now text) (now names) (now variables) cursor token ⌝ }
     ensures { λ r. ⌜ ReadsTerm (now (program .entry)) (now (output .entry)) (now (text .entry)) (now (names .entry)) (now (variables .entry)) cursor r (now (names .exit)) (now (variables .exit)) ⌝ }
 {
-    let token = token_at(text, cursor.at, cursor.ground);
     if token.kind == NAME {
         return name_term(program, output, text, names, cursor, token);
     }

@@ -24,7 +24,7 @@ no-mark b o s p [] = rw o s
 no-mark b o s p (c ∷ []) = rw o (p c)
 no-mark b o s p (c ∷ d ∷ rest) = rw o
 
-blank-stray : (program : Bool) (b : ℕ) (rest : List ℕ) → isBlank program b ≡ true → kindOf (b ∷ rest) ≡ Stray
+pub blank-stray : (program : Bool) (b : ℕ) (rest : List ℕ) → isBlank program b ≡ true → kindOf (b ∷ rest) ≡ Stray
 unfolding isBlank classOf singleKind pairKind
 blank-stray program b rest = go (eqb b 32) refl (eqb b 9) refl (eqb b 10) refl
   where

@@ -1,15 +1,17 @@
 -- Small texts and their tokens, by computation.
-use Prim.Native.Nat.{ℕ}
+use Prim.Native.Nat.{ℕ, suc}
 use mathlib.Core.Path.{_≡_, refl}
 use mathlib.Core.Bool.{Bool, true, false}
 use mathlib.Core.List.{List, [], _∷_}
+use Rattle.tokens.specs.declared.kind.Kind.{Kind}
 use Rattle.tokens.specs.declared.kind.Kind.the-variants.{Name, Not, Variable, Anonymous, Number, If, Minus, Times, Unequal, AlsoUnequal, AtMost, AtLeast, Stray}
 use Rattle.tokens.specs.declared.Token.{Token}
 use Rattle.tokens.specs.Class.{classOf}
 use Rattle.tokens.specs.Run.{isBlank, prefixLen}
 use Rattle.tokens.specs.Gap.{startsComment, gap}
 use Rattle.tokens.specs.Spelling.{singleKind, pairKind, nameKind}
-use Rattle.tokens.specs.Token.{placed, markAt, tokenAt, nextToken}
+use Rattle.tokens.specs.Place.{newlines, since, line-of, column-of}
+use Rattle.tokens.specs.Token.{markAt, tokenAt, nextToken}
 use Rattle.tokens.specs.Tokens.{tokensUpTo, tokensFrom}
 
 -- a text, whether it is a program or a facts line, and its tokens
@@ -17,6 +19,14 @@ record Example : Type 0 where
   program : Bool
   text : List ℕ
   tokens : List Token
+
+-- a token at a line and a column
+abbrev token-on : ℕ → ℕ → Kind → ℕ → ℕ → Token
+token-on line column kind start len = record { kind = kind; place = record { start = start; len = len; line = line; column = column } }
+
+-- .. on the first line
+abbrev placed : Kind → ℕ → ℕ → Token
+placed kind start len = token-on 1 (suc start) kind start len
 
 abbrev examples : List Example
 examples =
@@ -39,15 +49,17 @@ examples =
     -- `:--1` is `:-`, `-` and `1`
     record { program = true; text = 58 ∷ 45 ∷ 45 ∷ 49 ∷ []; tokens = placed If 0 2 ∷ placed Minus 2 1 ∷ placed Number 3 1 ∷ [] } ∷
     -- a comment ends with its line, and another with the text
-    record { program = true; text = 97 ∷ 37 ∷ 98 ∷ 10 ∷ 99 ∷ 37 ∷ []; tokens = placed Name 0 1 ∷ placed Name 4 1 ∷ [] } ∷
+    record { program = true; text = 97 ∷ 37 ∷ 98 ∷ 10 ∷ 99 ∷ 37 ∷ []; tokens = placed Name 0 1 ∷ token-on 2 1 Name 4 1 ∷ [] } ∷
     -- `%*` is no comment, and `%%*` is one
     record { program = true; text = 37 ∷ 42 ∷ 10 ∷ 37 ∷ 37 ∷ 42 ∷ []; tokens = placed Stray 0 1 ∷ placed Times 1 1 ∷ [] } ∷
     -- on a facts line `%` is stray
     record { program = false; text = 97 ∷ 37 ∷ 98 ∷ []; tokens = placed Name 0 1 ∷ placed Stray 1 1 ∷ placed Name 2 1 ∷ [] } ∷
     -- and so is a newline, which is a blank in a program; space and tab are blanks on both
-    record { program = false; text = 97 ∷ 10 ∷ 98 ∷ []; tokens = placed Name 0 1 ∷ placed Stray 1 1 ∷ placed Name 2 1 ∷ [] } ∷
-    record { program = true; text = 97 ∷ 10 ∷ 98 ∷ []; tokens = placed Name 0 1 ∷ placed Name 2 1 ∷ [] } ∷
+    record { program = false; text = 97 ∷ 10 ∷ 98 ∷ []; tokens = placed Name 0 1 ∷ placed Stray 1 1 ∷ token-on 2 1 Name 2 1 ∷ [] } ∷
+    record { program = true; text = 97 ∷ 10 ∷ 98 ∷ []; tokens = placed Name 0 1 ∷ token-on 2 1 Name 2 1 ∷ [] } ∷
     record { program = false; text = 32 ∷ 97 ∷ 9 ∷ 98 ∷ []; tokens = placed Name 1 1 ∷ placed Name 3 1 ∷ [] } ∷
+    -- lines count on behind empty ones and behind a comment; a tab, a CR and the bytes of a letter beyond ASCII are a column each
+    record { program = true; text = 10 ∷ 37 ∷ 195 ∷ 10 ∷ 9 ∷ 97 ∷ 13 ∷ 10 ∷ 195 ∷ 169 ∷ 98 ∷ []; tokens = token-on 3 2 Name 5 1 ∷ token-on 3 3 Stray 6 1 ∷ token-on 4 1 Stray 8 1 ∷ token-on 4 2 Stray 9 1 ∷ token-on 4 3 Name 10 1 ∷ [] } ∷
     []
 
 abbrev Right : List Example → Type 0
@@ -55,5 +67,5 @@ Right [] = Unit {0}
 Right (x ∷ xs) = (tokensFrom (x .program) (x .text) 0 ≡ x .tokens) × Right xs
 
 pub right : Right examples
-unfolding classOf isBlank prefixLen startsComment gap singleKind pairKind nameKind markAt tokenAt nextToken tokensUpTo tokensFrom
-right = (refl, (refl, (refl, (refl, (refl, (refl, (refl, (refl, (refl, (refl, (refl, (refl, (refl, (refl, (refl, tt)))))))))))))))
+unfolding classOf isBlank prefixLen startsComment gap singleKind pairKind nameKind markAt tokenAt nextToken tokensUpTo tokensFrom newlines since line-of column-of
+right = (refl, (refl, (refl, (refl, (refl, (refl, (refl, (refl, (refl, (refl, (refl, (refl, (refl, (refl, (refl, (refl, tt))))))))))))))))

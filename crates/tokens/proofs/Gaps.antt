@@ -1,18 +1,22 @@
--- Laws of `gap`: blanks, then nothing, or a comment and what stands behind it.
-use Prim.Native.Nat.{ℕ, suc, _+_, _<_}
+-- Laws of `gap`: blanks, then nothing, or a comment and what stands behind it; and lines and columns along it.
+use Prim.Native.Nat.{ℕ, zero, suc, _+_, _≤_, _<_}
 use native.Mathlib.Nat.{zero-add, add-zero}
 use native.Mathlib.Omega.{arith}
 use mathlib.Core.Path.{_≡_, refl, sym, _∙_}
-use mathlib.Core.Bool.{Bool, true, false, not, _&&_, true≢false}
+use mathlib.Core.Bool.{Bool, true, false, not, _&&_, _||_, true≢false}
 use mathlib.Core.List.{List, [], _∷_}
 use lib.Dec.{eqb}
 use lib.ListN.{length, getD, drop, length-drop}
 use lib.Seq.{drop-drop, getD-drop}
 use borrow.Author.Tests.{eqb-true}
+use Rattle.tokens.specs.declared.place.Place.{Place}
 use Rattle.tokens.specs.Run.{isBlank, inLine, prefixLen}
 use Rattle.tokens.specs.Gap.{startsComment, gap, comment}
+use Rattle.tokens.specs.Place.{Stands, along, countless, Countable}
 use Rattle.tokens.proofs.Conjunction.{both}
-use Rattle.tokens.proofs.Prefix.{prefix-nil, prefix-more, prefix-none, prefix-rest}
+use Rattle.tokens.proofs.Prefix.{prefix-nil, prefix-more, prefix-none, prefix-rest, prefix-wider}
+use Rattle.tokens.proofs.Every.{prefix-inside}
+use Rattle.tokens.proofs.Counting.{countable, along-stands}
 
 pub gap-blank : (program : Bool) (b : ℕ) (rest : List ℕ) → isBlank program b ≡ true → gap program (b ∷ rest) ≡ suc (gap program rest)
 unfolding gap
@@ -89,3 +93,66 @@ module _ (program : Bool) (s : List ℕ) (i j : ℕ) (ej : j ≡ i + prefixLen (
     comment-inside =
         let h = comment-starts (drop j s) (allowed .1) in
         (omega (arith, length-drop j s), omega arith)
+
+-- ---- behind a gap stands no blank
+
+module _ (s : List ℕ) where
+  abbrev blanks : ℕ
+  blanks = prefixLen (isBlank true) s
+
+  abbrev line : ℕ
+  line = prefixLen inLine (drop blanks s)
+
+  rest-plain : startsComment (drop blanks s) ≡ false → prefixLen (isBlank true) (drop (gap true s) s) ≡ 0
+  rest-plain e =
+      let z : gap true s ≡ blanks = gap-blanks true s ∙ rw (no-gap true (drop blanks s) (prefix-rest (isBlank true) s) e) (add-zero blanks) in
+      rw z (prefix-rest (isBlank true) s)
+
+  rest-comment : startsComment (drop blanks s) ≡ true → prefixLen (isBlank true) (drop (gap true (drop line (drop blanks s))) (drop line (drop blanks s))) ≡ 0 → prefixLen (isBlank true) (drop (gap true s) s) ≡ 0
+  rest-comment e ih =
+      let c : gap true (drop blanks s) ≡ line + gap true (drop line (drop blanks s)) = comment-gap (drop blanks s) e ∙ comment-line (drop blanks s) in
+      let z : gap true s ≡ blanks + (line + gap true (drop line (drop blanks s))) = gap-blanks true s ∙ rw c in
+      rw (z, ← (drop-drop (line + gap true (drop line (drop blanks s))) blanks s), ← (drop-drop (gap true (drop line (drop blanks s))) line (drop blanks s))) ih
+
+  shorter : startsComment (drop blanks s) ≡ true → length (drop line (drop blanks s)) < length s
+  shorter e = let h = comment-starts (drop blanks s) e in omega (arith, length-drop line (drop blanks s), length-drop blanks s)
+
+gap-rest : (n : ℕ) (s : List ℕ) → length s ≤ n → prefixLen (isBlank true) (drop (gap true s) s) ≡ 0
+gap-rest zero s h = go (startsComment (drop (blanks s) s)) refl
+  where
+    go : (t : Bool) → startsComment (drop (blanks s) s) ≡ t → prefixLen (isBlank true) (drop (gap true s) s) ≡ 0
+    go true e = absurd (let l = shorter s e in let z : ⊥ = omega arith in z)
+    go false e = rest-plain s e
+gap-rest (suc n) s h = go (startsComment (drop (blanks s) s)) refl (gap-rest n (drop (line s) (drop (blanks s) s)))
+  where
+    go : (t : Bool) → startsComment (drop (blanks s) s) ≡ t → (length (drop (line s) (drop (blanks s) s)) ≤ n → prefixLen (isBlank true) (drop (gap true (drop (line s) (drop (blanks s) s))) (drop (line s) (drop (blanks s) s))) ≡ 0) → prefixLen (isBlank true) (drop (gap true s) s) ≡ 0
+    go true e ih = rest-comment s e (ih (let l = shorter s e in omega arith))
+    go false e ih = rest-plain s e
+
+pub behind-gap : (s : List ℕ) (at : ℕ) → prefixLen (isBlank true) (drop (at + gap true (drop at s)) s) ≡ 0
+behind-gap s at = rw (← (drop-drop (gap true (drop at s)) at s)) (gap-rest (length (drop at s)) (drop at s) (omega arith))
+
+-- ---- lines and columns along a gap
+
+-- a blank of a facts line is no newline
+line-blank : (b : ℕ) → isBlank false b ≡ true → inLine b ≡ true
+unfolding isBlank inLine
+line-blank b = go (eqb b 10) refl
+  where
+    go : (t : Bool) → eqb b 10 ≡ t → (eqb b 32 || (eqb b 9 || (eqb b 10 && false))) ≡ true → not (eqb b 10) ≡ true
+    go true e h = absurd (true≢false (sym h ∙ rw (eqb-true b 10 e)))
+    go false e h = rw e
+
+module _ (text : List ℕ) (p : Place) (s : Stands text p) (end : ℕ) where
+  -- behind what is left of a line
+  pub line-stands : end ≡ p .start + prefixLen inLine (drop (p .start) text) → Stands text (along p end)
+  line-stands e = along-stands text p s end (omega arith) (omega arith)
+
+  -- behind the blanks of a facts line
+  pub blanks-stand : end ≡ p .start + prefixLen (isBlank false) (drop (p .start) text) → Stands text (along p end)
+  blanks-stand e = along-stands text p s end (omega arith) (omega (arith, prefix-wider (isBlank false) inLine line-blank (drop (p .start) text)))
+
+  -- how far both go
+  module _ (test : ℕ → Bool) (e : end ≡ p .start + prefixLen test (drop (p .start) text)) where
+    pub run-countable : length text < countless → Countable p end
+    run-countable f = let l = length-drop (p .start) text in let i = prefix-inside test (drop (p .start) text) in let w = s .inside in countable text p s end (omega arith) (omega arith) f

@@ -3,6 +3,7 @@ pub mod Conjunction
 pub mod Classes
 pub mod Prefix
 pub mod Every
+pub mod Counting
 pub mod Gaps
 pub mod Decimal
 pub mod KindNumber
@@ -11,6 +12,7 @@ pub mod Between
 pub mod Starts
 pub mod LongestMatch
 pub mod Next
+pub mod OneLine
 pub mod TokenList
 pub mod Examples
 pub mod PartBytes

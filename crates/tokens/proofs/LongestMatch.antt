@@ -13,6 +13,7 @@ use Rattle.tokens.specs.declared.class.Class.{Class}
 use Rattle.tokens.specs.declared.class.Class.the-variants.{Lower, Upper, Digit, Underscore, Other}
 use Rattle.tokens.specs.declared.run.Run.the-variants.{Word, Digits}
 use Rattle.tokens.specs.declared.kind.Kind.{Kind}
+use Rattle.tokens.specs.declared.place.Place.{Place}
 use Rattle.tokens.specs.declared.kind.Kind.the-variants.{Name, Not, Variable, Anonymous, Number, Stray}
 use Rattle.tokens.specs.Class.{classOf}
 use Rattle.tokens.specs.Run.{goesOn, prefixLen}
@@ -78,7 +79,7 @@ mark-beyond b c (d ∷ r) zero l k = absurd (let z : ⊥ = omega arith in z)
 mark-beyond b c (d ∷ r) (suc zero) l k = absurd (let z : ⊥ = omega arith in z)
 mark-beyond b c (d ∷ r) (suc (suc n)) l k = refl
 
-mark-longest : (at b : ℕ) (rest : List ℕ) → classOf b ≡ Other → Longest (b ∷ rest) (markAt at b (getD rest 0 0) .kind) (markAt at b (getD rest 0 0) .place .len)
+mark-longest : (at : Place) (b : ℕ) (rest : List ℕ) → classOf b ≡ Other → Longest (b ∷ rest) (markAt at b (getD rest 0 0) .kind) (markAt at b (getD rest 0 0) .place .len)
 unfolding markAt
 mark-longest at b [] e =
     rw (pair-at-end b)
@@ -94,7 +95,7 @@ mark-longest at b (c ∷ r) e = go (isStray (pairKind b c)) refl
     go true q = rw q (from-class b (c ∷ r) Other e (singleKind b) 0 (omega arith) refl (one q) (λ s. refl))
     go false q = rw q (from-class b (c ∷ r) Other e (pairKind b c) 1 (omega arith) refl (mark-beyond b c r) (λ s. absurd (true≢false (sym s ∙ q))))
 
-pub start-longest : (at b : ℕ) (rest : List ℕ) (class : Class) → classOf b ≡ class → Longest (b ∷ rest) (startAt at class b rest .kind) (startAt at class b rest .place .len)
+pub start-longest : (at : Place) (b : ℕ) (rest : List ℕ) (class : Class) → classOf b ≡ class → Longest (b ∷ rest) (startAt at class b rest .kind) (startAt at class b rest .place .len)
 start-longest at b rest Lower e =
     let n = prefixLen (goesOn Word) rest in
     let len : length (take n rest) ≡ n = length-take-le n rest (prefix-inside (goesOn Word) rest) in

@@ -12,6 +12,7 @@ use Rattle.tokens.specs.declared.class.Class.{Class}
 use Rattle.tokens.specs.declared.class.Class.the-variants.{Lower, Upper, Digit, Underscore, Other}
 use Rattle.tokens.specs.declared.kind.Kind.{Kind}
 use Rattle.tokens.specs.declared.kind.Kind.the-variants.{End, Stray}
+use Rattle.tokens.specs.declared.place.Place.{Place}
 use Rattle.tokens.specs.declared.Token.{Token}
 use Rattle.tokens.specs.Class.{classOf}
 use Rattle.tokens.specs.Gap.{gap}
@@ -19,7 +20,8 @@ use Rattle.tokens.specs.Kind.{isEnd, isStray}
 use Rattle.tokens.specs.Spelling.{singleKind, pairKind, nameKind, kindOf}
 use Rattle.tokens.specs.Spells.{Spells}
 use Rattle.tokens.specs.Longest.{Longest, Found}
-use Rattle.tokens.specs.Token.{placed, markAt, startAt, tokenAt, nextToken}
+use Rattle.tokens.specs.Place.{place-from, with-len}
+use Rattle.tokens.specs.Token.{standing, placed, markAt, startAt, tokenAt, nextToken}
 use Rattle.tokens.specs.Tokens.{part}
 use Rattle.tokens.proofs.Prefix.{drop-at}
 use Rattle.tokens.proofs.Starts.{end-at, starts-at}
@@ -41,11 +43,11 @@ pair-not-end : (b c : ℕ) → isEnd (pairKind b c) ≡ false
 unfolding pairKind
 pair-not-end b c = search either depth 20
 
-mark-not-end : (at b c : ℕ) → isEnd (markAt at b c .kind) ≡ false
+mark-not-end : (at : Place) (b c : ℕ) → isEnd (markAt at b c .kind) ≡ false
 unfolding markAt
 mark-not-end at b c = go (isStray (pairKind b c))
   where
-    go : (t : Bool) → isEnd (cond t (placed (singleKind b) at 1) (placed (pairKind b c) at 2) .kind) ≡ false
+    go : (t : Bool) → isEnd (cond t (standing (singleKind b) at 1) (standing (pairKind b c) at 2) .kind) ≡ false
     go true = single-not-end b
     go false = pair-not-end b c
 
@@ -53,27 +55,27 @@ name-not-end : (len a b c : ℕ) → isEnd (nameKind len a b c) ≡ false
 unfolding nameKind
 name-not-end len a b c = search either
 
-start-not-end : (at : ℕ) (class : Class) (b : ℕ) (rest : List ℕ) → isEnd (startAt at class b rest .kind) ≡ false
+start-not-end : (at : Place) (class : Class) (b : ℕ) (rest : List ℕ) → isEnd (startAt at class b rest .kind) ≡ false
 start-not-end at Lower b rest = name-not-end _ _ _ _
 start-not-end at Upper b rest = refl
 start-not-end at Digit b rest = refl
 start-not-end at Underscore b rest = refl
 start-not-end at Other b rest = mark-not-end at b (getD rest 0 0)
 
-mark-start : (at b c : ℕ) → markAt at b c .place .start ≡ at
+mark-place : (at : Place) (b c : ℕ) → markAt at b c .place ≡ with-len at (markAt at b c .place .len)
 unfolding markAt
-mark-start at b c = go (isStray (pairKind b c))
+mark-place at b c = go (isStray (pairKind b c))
   where
-    go : (t : Bool) → cond t (placed (singleKind b) at 1) (placed (pairKind b c) at 2) .place .start ≡ at
+    go : (t : Bool) → cond t (standing (singleKind b) at 1) (standing (pairKind b c) at 2) .place ≡ with-len at (cond t (standing (singleKind b) at 1) (standing (pairKind b c) at 2) .place .len)
     go true = refl
     go false = refl
 
-start-place : (at : ℕ) (class : Class) (b : ℕ) (rest : List ℕ) → startAt at class b rest .place .start ≡ at
+start-place : (at : Place) (class : Class) (b : ℕ) (rest : List ℕ) → startAt at class b rest .place ≡ with-len at (startAt at class b rest .place .len)
 start-place at Lower b rest = refl
 start-place at Upper b rest = refl
 start-place at Digit b rest = refl
 start-place at Underscore b rest = refl
-start-place at Other b rest = mark-start at b (getD rest 0 0)
+start-place at Other b rest = mark-place at b (getD rest 0 0)
 
 -- ---- the token at a place
 
@@ -82,29 +84,35 @@ found text at h =
     rw (starts-at text at h)
     (record {
       here = h;
-      start = start-place at (classOf b) b rest;
-      real = start-not-end at (classOf b) b rest;
-      longest = rw (drop-at text at h) (start-longest at b rest (classOf b) refl);
+      place = start-place here (classOf b) b rest;
+      real = start-not-end here (classOf b) b rest;
+      longest = rw (drop-at text at h) (start-longest here b rest (classOf b) refl);
     })
   where
+    here : Place
+    here = place-from text at 0
+
     b : ℕ
     b = getD text at 0
 
     rest : List ℕ
     rest = drop (at + 1) text
 
-found-or-end : (text : List ℕ) (at : ℕ) → Found text at (tokenAt text at) ⊎ ((length text ≤ at) × (tokenAt text at ≡ placed End (length text) 0))
+found-or-end : (text : List ℕ) (at : ℕ) → Found text at (tokenAt text at) ⊎ ((length text ≤ at) × (tokenAt text at ≡ placed text End (length text) 0))
 found-or-end text at = go (ltb at (length text)) refl
   where
-    go : (t : Bool) → ltb at (length text) ≡ t → Found text at (tokenAt text at) ⊎ ((length text ≤ at) × (tokenAt text at ≡ placed End (length text) 0))
+    go : (t : Bool) → ltb at (length text) ≡ t → Found text at (tokenAt text at) ⊎ ((length text ≤ at) × (tokenAt text at ≡ placed text End (length text) 0))
     go true e = inl (found text at (ltb-true at (length text) e))
     go false e = let h = ltb-false at (length text) e in inr (h, end-at text at h)
 
-by-parts : (t : Token) {kind : Kind} {start len : ℕ} → t .kind ≡ kind → t .place .start ≡ start → t .place .len ≡ len → t ≡ placed kind start len
-by-parts t a b c = rw (← a, ← b, ← c)
+by-parts : (text : List ℕ) (t : Token) {kind : Kind} {start len : ℕ} → t .kind ≡ kind → t .place ≡ place-from text start (t .place .len) → t .place .len ≡ len → t ≡ placed text kind start len
+by-parts text t {kind} {start} a b c = λ i. record { kind = a i; place = (b ∙ ap (place-from text start) c) i }
+
+found-start : {text : List ℕ} {at : ℕ} {t : Token} → Found text at t → t .place .start ≡ at
+found-start f = ap (λ (p : Place). p .start) (f .place)
 
 found-inside : (text : List ℕ) (at : ℕ) (t : Token) → Found text at t → t .place .start + t .place .len ≤ length text
-found-inside text at t f = let r : t .place .len ≤ length text - at = rw (← (length-drop at text)) (f .longest .inside) in omega arith
+found-inside text at t f = let r : t .place .len ≤ length text - at = rw (← (length-drop at text)) (f .longest .inside) in omega (arith, f .here, found-start f)
 
 nothing-stray : kindOf [] ≡ Stray
 unfolding kindOf
@@ -125,7 +133,7 @@ module _ (program : Bool) (text : List ℕ) (at : ℕ) where
   inside = elim (found-or-end text (at + gap program (drop at text))) [ inl f ↦ found-inside _ _ _ f | inr e ↦ rw (e .1) (omega arith) ]
 
   -- the end stands at the text's length
-  pub end-place : isEnd (next .kind) ≡ true → next ≡ placed End (length text) 0
+  pub end-place : isEnd (next .kind) ≡ true → next ≡ placed text End (length text) 0
   unfolding nextToken
   end-place e = elim (found-or-end text (at + gap program (drop at text))) [ inl f ↦ absurd (true≢false (sym e ∙ f .real)) | inr q ↦ q .1 ]
 
@@ -140,7 +148,7 @@ module _ (program : Bool) (text : List ℕ) (at : ℕ) where
 
   -- its kind is what its bytes spell
   pub next-kind : isEnd (next .kind) ≡ false → kindOf (part text (next .place)) ≡ next .kind
-  next-kind e = rw (next-found e .start) (next-found e .longest .spelled)
+  next-kind e = rw (found-start (next-found e)) (next-found e .longest .spelled)
 
   pub next-spells : isEnd (next .kind) ≡ false → isStray (next .kind) ≡ false → Spells (next .kind) (part text (next .place))
   next-spells e h =
@@ -152,7 +160,7 @@ module _ (program : Bool) (text : List ℕ) (at : ℕ) where
   next-longest e n l h kind s = stray-spells kind _ (longer n l h) s
     where
       longer : (m : ℕ) → next .place .len < m → m ≤ length (drop (next .place .start) text) → kindOf (take m (drop (next .place .start) text)) ≡ Stray
-      longer = rw (next-found e .start) (next-found e .longest .longest)
+      longer = rw (found-start (next-found e)) (next-found e .longest .longest)
 
   -- where a byte is stray no bytes are a token
   pub stray-no-token : next .kind ≡ Stray → (n : ℕ) → n ≤ length (drop (next .place .start) text) → (kind : Kind) → Spells kind (take n (drop (next .place .start) text)) → ⊥
@@ -179,26 +187,26 @@ module _ (program : Bool) (text : List ℕ) (at : ℕ) where
     where
       go : (t : Bool) → isEnd (next .kind) ≡ t → at ≤ next .place .start
       go true e = rw (end-place e) h
-      go false e = omega (arith, next-found e .start)
+      go false e = omega (arith, found-start (next-found e))
 
   pub onward : isEnd (next .kind) ≡ false → at < next .place .start + next .place .len
-  onward e = omega (arith, next-found e .start, not-empty e)
+  onward e = omega (arith, found-start (next-found e), not-empty e)
 
   -- the longest match behind the gap is the next token
-  pub next-is : (start : ℕ) (kind : Kind) (len : ℕ) → start ≡ at + gap program (drop at text) → Longest (drop start text) kind len → next ≡ placed kind start len
+  pub next-is : (start : ℕ) (kind : Kind) (len : ℕ) → start ≡ at + gap program (drop at text) → Longest (drop start text) kind len → next ≡ placed text kind start len
   unfolding nextToken
   next-is start kind len q l = rw (← q) (elim (found-or-end text start) [ inl f ↦ same f | inr e ↦ absurd (past (e .0)) ])
     where
-      same : Found text start (tokenAt text start) → tokenAt text start ≡ placed kind start len
+      same : Found text start (tokenAt text start) → tokenAt text start ≡ placed text kind start len
       same f =
           let u = longest-unique (drop start text) _ _ _ _ (f .longest) l in
-          by-parts (tokenAt text start) (u .0) (f .start) (u .1)
+          by-parts text (tokenAt text start) (u .0) (f .place) (u .1)
 
       past : length text ≤ start → ⊥
       past h = omega (arith, l .not-empty, l .inside, length-drop start text)
 
   -- so a token that stands at the place is the next
-  pub next-here : (kind : Kind) (len : ℕ) → isStray kind ≡ false → Longest (drop at text) kind len → next ≡ placed kind at len
+  pub next-here : (kind : Kind) (len : ℕ) → isStray kind ≡ false → Longest (drop at text) kind len → next ≡ placed text kind at len
   next-here kind len h l =
       let z : gap program (drop at text) ≡ 0 = token-no-gap program (drop at text) len (ap isStray (l .spelled) ∙ h) in
       next-is at kind len (omega arith) l

@@ -1,4 +1,4 @@
--- Laws of the bytes of a place, and of whether two names are the same.
+-- Laws of the bytes of a span, and of whether two names are the same.
 use mathlib.Core.Path.{_≡_, sym as inv, _∙_}
 use mathlib.Core.Bool.{true, false}
 use Prim.Native.Nat.{ℕ, _+_, _-_, _≤_, _<_}
@@ -6,25 +6,25 @@ use native.Mathlib.Omega.{arith}
 use lib.ListN.{length, take, drop, getD, length-drop, drop-of-length-le}
 use lib.Seq.{take-all, take-nil, drop-length}
 use borrow.Author.Tests.{eq-eqb}
-use Rattle.tokens.specs.declared.Place.{Place}
-use Rattle.tokens.specs.Tokens.{part}
+use Rattle.tokens.specs.declared.place.Span.{Span}
+use Rattle.tokens.specs.Tokens.{bytes-in}
 use Rattle.tokens.proofs.Prefix.{drop-at}
 use Rattle.meaning.specs.Rules.{Bytes}
 use Rattle.meaning.specs.Values.{same-bytes}
 use Rattle.meaning.proofs.Booleans.{never-true}
 use Rattle.meaning.proofs.Facts.{same-bytes-sound}
 
-module _ (text : Bytes) (place : Place) where
-  pub part-past : length text ≤ place .start → take (length text - length text) (drop (length text) text) ≡ part text place
-  part-past h = rw (drop-length text, drop-of-length-le text h, take-nil (length text - length text), take-nil (place .len))
+module _ (text : Bytes) (span : Span) where
+  pub bytes-past : length text ≤ span .start → take (length text - length text) (drop (length text) text) ≡ bytes-in text span
+  bytes-past h = rw (drop-length text, drop-of-length-le text h, take-nil (length text - length text), take-nil (span .len))
 
-  pub part-tail : length text - place .start ≤ place .len → take (length text - place .start) (drop (place .start) text) ≡ part text place
-  part-tail h =
-      let l = length-drop (place .start) text in
-      take-all (length text - place .start) (drop (place .start) text) (omega arith) ∙ inv (take-all (place .len) (drop (place .start) text) (omega arith))
+  pub bytes-tail : length text - span .start ≤ span .len → take (length text - span .start) (drop (span .start) text) ≡ bytes-in text span
+  bytes-tail h =
+      let l = length-drop (span .start) text in
+      take-all (length text - span .start) (drop (span .start) text) (omega arith) ∙ inv (take-all (span .len) (drop (span .start) text) (omega arith))
 
-  pub part-inside : take (place .start + place .len - place .start) (drop (place .start) text) ≡ part text place
-  part-inside = let e : place .start + place .len - place .start ≡ place .len = omega arith in rw e
+  pub bytes-inside : take (span .start + span .len - span .start) (drop (span .start) text) ≡ bytes-in text span
+  bytes-inside = let e : span .start + span .len - span .start ≡ span .len = omega arith in rw e
 
 module _ (a b : Bytes) where
   -- a length or a byte tells names apart

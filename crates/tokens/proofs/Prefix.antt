@@ -59,3 +59,13 @@ prefix-rest p (b ∷ rest) = go (p b) refl (prefix-rest p rest)
     go : (t : Bool) → p b ≡ t → prefixLen p (drop (prefixLen p rest) rest) ≡ 0 → prefixLen p (drop (prefixLen p (b ∷ rest)) (b ∷ rest)) ≡ 0
     go true e ih = rw e ih
     go false e ih = rw (prefix-none p b rest e) (prefix-none p b rest e)
+
+-- a test that passes more has the longer prefix
+pub prefix-wider : (p q : ℕ → Bool) → ((b : ℕ) → p b ≡ true → q b ≡ true) → (s : List ℕ) → prefixLen p s ≤ prefixLen q s
+unfolding prefixLen
+prefix-wider p q wider [] = omega arith
+prefix-wider p q wider (b ∷ rest) = go (p b) refl (prefix-wider p q wider rest)
+  where
+    go : (t : Bool) → p b ≡ t → prefixLen p rest ≤ prefixLen q rest → prefixLen p (b ∷ rest) ≤ prefixLen q (b ∷ rest)
+    go true e ih = rw (e, wider b e) (omega arith)
+    go false e ih = rw e (omega arith)

@@ -7,7 +7,8 @@ pub mod Number
 pub mod Kind
 pub mod Spelling
 pub mod Spells
-pub mod Longest
+pub mod Place
 pub mod Places
+pub mod Longest
 pub mod Token
 pub mod Tokens

@@ -9,6 +9,7 @@ use Rattle.tokens.specs.declared.kind.Kind.the-variants.{Stray}
 use Rattle.tokens.specs.declared.Token.{Token}
 use Rattle.tokens.specs.Kind.{isEnd}
 use Rattle.tokens.specs.Spelling.{kindOf}
+use Rattle.tokens.specs.Place.{place-from}
 
 -- the first `len` bytes are a token of this kind, and no more bytes are a token of any kind; where no bytes are one, the first is stray
 pub record Longest (text : List ℕ) (kind : Kind) (len : ℕ) : Type 0 where
@@ -18,9 +19,9 @@ pub record Longest (text : List ℕ) (kind : Kind) (len : ℕ) : Type 0 where
   pub longest : (n : ℕ) → len < n → n ≤ length text → kindOf (take n text) ≡ Stray
   pub stray : kind ≡ Stray → len ≡ 1
 
--- a byte stands at the place, and t is the longest match there
+-- a byte stands there, and t is the longest match there
 pub record Found (text : List ℕ) (at : ℕ) (t : Token) : Type 0 where
   pub here : at < length text
-  pub start : t .place .start ≡ at
+  pub place : t .place ≡ place-from text at (t .place .len)
   pub real : isEnd (t .kind) ≡ false
   pub longest : Longest (drop at text) (t .kind) (t .place .len)

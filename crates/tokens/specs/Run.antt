@@ -1,10 +1,10 @@
 -- Runs: the bytes at the start of a text that are of one sort.
 use Prim.Native.Nat.{ℕ, suc}
-use mathlib.Core.Bool.{Bool, true, false, cond, not, _&&_, _||_}
+use mathlib.Core.Bool.{Bool, false, cond, not, _&&_, _||_}
 use mathlib.Core.List.{List, [], _∷_}
 use lib.Dec.{eqb}
 use Rattle.tokens.specs.declared.run.Run.{Run}
-use Rattle.tokens.specs.declared.run.Run.the-variants.{Blanks, LineBlanks, Line, Word, Digits}
+use Rattle.tokens.specs.declared.run.Run.the-variants.{LineBlanks, Line, Word, Digits}
 use Rattle.tokens.specs.Class.{classOf, isWord, isDigit}
 
 -- space, tab and, in a program, newline: on a facts line a newline is no blank
@@ -16,7 +16,6 @@ unfoldable pub inLine : ℕ → Bool
 inLine b = not (eqb b 10)
 
 abbrev pub goesOn : Run → ℕ → Bool
-goesOn Blanks b = isBlank true b
 goesOn LineBlanks b = isBlank false b
 goesOn Line b = inLine b
 goesOn Word b = isWord (classOf b)

@@ -15,33 +15,39 @@ use Rattle.tokens.specs.Run.{goesOn, prefixLen}
 use Rattle.tokens.specs.Gap.{gap}
 use Rattle.tokens.specs.Kind.{isStray}
 use Rattle.tokens.specs.Spelling.{singleKind, pairKind, nameKind}
-use Rattle.tokens.specs.Places.{place-from}
+use Rattle.tokens.specs.declared.place.Place.{Place}
+use Rattle.tokens.specs.Place.{place-from, with-len}
 
-abbrev pub placed : Kind → ℕ → ℕ → Token
-placed kind start len = record { kind = kind; place = place-from start len }
+-- a token of a kind and a length, that starts where a place does
+abbrev pub standing : Kind → Place → ℕ → Token
+standing kind at len = record { kind = kind; place = with-len at len }
+
+-- .. that starts at a byte of a text
+abbrev pub placed : List ℕ → Kind → ℕ → ℕ → Token
+placed text kind start len = standing kind (place-from text start 0) len
 
 -- two bytes are read as one mark where they are one
-unfoldable pub markAt : ℕ → ℕ → ℕ → Token
-markAt at b c = cond (isStray (pairKind b c)) (placed (singleKind b) at 1) (placed (pairKind b c) at 2)
+unfoldable pub markAt : Place → ℕ → ℕ → Token
+markAt at b c = cond (isStray (pairKind b c)) (standing (singleKind b) at 1) (standing (pairKind b c) at 2)
 
 -- the longest token at a place, by the class of the byte there, that byte, and the bytes after it
-abbrev pub startAt : ℕ → Class → ℕ → List ℕ → Token
+abbrev pub startAt : Place → Class → ℕ → List ℕ → Token
 startAt at Lower b rest =
     let len = suc (prefixLen (goesOn Word) rest) in
-    placed (nameKind len b (getD rest 0 0) (getD rest 1 0)) at len
-startAt at Upper b rest = placed Variable at (suc (prefixLen (goesOn Word) rest))
-startAt at Digit b rest = placed Number at (cond (eqb b 48) 1 (suc (prefixLen (goesOn Digits) rest)))
-startAt at Underscore b rest = placed Anonymous at 1
+    standing (nameKind len b (getD rest 0 0) (getD rest 1 0)) at len
+startAt at Upper b rest = standing Variable at (suc (prefixLen (goesOn Word) rest))
+startAt at Digit b rest = standing Number at (cond (eqb b 48) 1 (suc (prefixLen (goesOn Digits) rest)))
+startAt at Underscore b rest = standing Anonymous at 1
 startAt at Other b rest = markAt at b (getD rest 0 0)
 
--- the token at a place, by the text's length and what is left of the text there
-abbrev pub tokenFrom : ℕ → ℕ → List ℕ → Token
-tokenFrom end at [] = placed End end 0
-tokenFrom end at (b ∷ rest) = startAt at (classOf b) b rest
+-- the token at a place of a text, by what is left of the text there
+abbrev pub tokenFrom : List ℕ → ℕ → List ℕ → Token
+tokenFrom text at [] = placed text End (length text) 0
+tokenFrom text at (b ∷ rest) = startAt (place-from text at 0) (classOf b) b rest
 
 -- at the end of the text, and past it, stands the end, empty at the text's length
 unfoldable pub tokenAt : List ℕ → ℕ → Token
-tokenAt text at = tokenFrom (length text) at (drop at text)
+tokenAt text at = tokenFrom text at (drop at text)
 
 -- the first token at or after a place, behind the blanks and comments of a program, or the blanks of a facts line
 unfoldable pub nextToken : Bool → List ℕ → ℕ → Token

@@ -1,10 +1,17 @@
-// What stands between two tokens: blanks and comments.
+// What stands between two tokens: blanks and comments. A newline of a program stands nowhere else, so its lines are counted here alone.
 ghost use mathlib.Core.Path.{_≡_};
+ghost use mathlib.Core.Bool.{true};
 ghost use Prim.Native.Nat.{_+_};
 ghost use lib.ListN.{drop};
+ghost use Rattle.tokens.specs.Run.{isBlank, prefixLen};
 ghost use Rattle.tokens.specs.Gap.{startsComment, gap};
+ghost use Rattle.tokens.specs.Place.{Stands};
+use crate::place::Place;
+use crate::place::along;
+use crate::place::behind;
 use crate::run::Run;
 use crate::run::byte_at;
+use crate::run::is_blank;
 use crate::run::run_end;
 
 // Does a comment start at `at`? At `%*` none does.
@@ -17,20 +24,38 @@ fn starts_comment(text: &[u8], at: usize) -> bool
     byte_at(text, at + 1) != b'*'
 }
 
+// Behind the blanks of a program that stand at `at`, each newline counted.
+fn blanks_end(text: &[u8], at: Place) -> Place
+    requires { ⌜ Stands (now text) at ⌝ }
+    ensures { λ r. ⌜ (r .start ≡ at .start + prefixLen (isBlank true) (drop (at .start) (now (text .entry)))) × Stands (now (text .entry)) r ⌝ }
+{
+    let mut end = at;
+    while end.start < text.len() {
+        let here = end.start;
+        let byte = text[here];
+        if !is_blank(byte, true) {
+            return end;
+        }
+        end = behind(end, byte);
+    }
+    end
+}
+
 // The first place at or after `at` where a token starts, or none can: behind the blanks of a facts line, or the blanks and comments
 // of a program.
-pub fn gap_end(text: &[u8], at: usize, program: bool) -> usize
-    ensures { λ r. ⌜ r ≡ at + gap program (drop at (now (text .entry))) ⌝ }
+pub fn gap_end(text: &[u8], at: Place, program: bool) -> Place
+    requires { ⌜ Stands (now text) at ⌝ }
+    ensures { λ r. ⌜ (r .start ≡ at .start + gap program (drop (at .start) (now (text .entry)))) × Stands (now (text .entry)) r ⌝ }
 {
     if !program {
-        return run_end(text, at, Run::LineBlanks);
+        return along(at, run_end(text, at.start, Run::LineBlanks));
     }
     let mut end = at;
     loop {
-        end = run_end(text, end, Run::Blanks);
-        if !starts_comment(text, end) {
+        end = blanks_end(text, end);
+        if !starts_comment(text, end.start) {
             return end;
         }
-        end = run_end(text, end, Run::Line);
+        end = along(end, run_end(text, end.start, Run::Line));
     }
 }

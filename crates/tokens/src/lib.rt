@@ -1,7 +1,7 @@
 // Bytes to tokens: a byte's class, blanks and comments, words, numbers, marks, and the token at a place.
 ghost use mathlib.Core.Path.{_≡_};
-ghost use Rattle.tokens.specs.Places.{place-from};
-ghost use Rattle.tokens.specs.Token.{placed, markAt, tokenAt, nextToken};
+ghost use Rattle.tokens.specs.Place.{Stands};
+ghost use Rattle.tokens.specs.Token.{standing, markAt, tokenAt, nextToken};
 use class::Class;
 use class::class_of;
 use kind::Kind;
@@ -10,6 +10,8 @@ use kind::kind_number;
 use kind::name_kind;
 use kind::pair_kind;
 use kind::single_kind;
+use place::Place;
+use place::with_len;
 use run::Run;
 use run::byte_at;
 use run::run_end;
@@ -19,25 +21,10 @@ mod gap;
 pub mod kind;
 pub mod number;
 pub mod parts;
+pub mod place;
 pub mod places;
 pub mod run;
 pub mod sizes;
-
-// A part of a text: its first byte, and its length.
-pub struct Place {
-    pub start: usize,
-    pub len: usize,
-}
-
-// The part that names nothing: empty, at a text's start.
-pub const NOWHERE: Place = Place { start: 0, len: 0 };
-
-// The part that starts at a byte and has a length.
-pub fn place_from(start: usize, len: usize) -> Place
-    ensures { λ r. ⌜ r ≡ place-from start len ⌝ }
-{
-    Place { start, len }
-}
 
 // A token: what it is, and where it stands.
 pub struct Token {
@@ -45,18 +32,18 @@ pub struct Token {
     pub place: Place,
 }
 
-// A token of a kind, at a place.
-fn placed(kind: Kind, start: usize, len: usize) -> Token
-    ensures { λ r. ⌜ r ≡ placed kind start len ⌝ }
+// A token of a kind and a length, where it stands.
+fn placed(kind: Kind, at: Place, len: usize) -> Token
+    ensures { λ r. ⌜ r ≡ standing kind at len ⌝ }
 {
     Token {
         kind,
-        place: place_from(start, len),
+        place: with_len(at, len),
     }
 }
 
 // The mark that starts at `at` with the byte `first`, where `second` comes after it: of two bytes where there is such a one.
-fn mark_at(at: usize, first: u8, second: u8) -> Token
+fn mark_at(at: Place, first: u8, second: u8) -> Token
     ensures { λ r. ⌜ r ≡ markAt at first second ⌝ }
 {
     let pair = pair_kind(first, second);
@@ -66,30 +53,38 @@ fn mark_at(at: usize, first: u8, second: u8) -> Token
     placed(pair, at, 2)
 }
 
-// The longest token that starts at `at`, or one stray byte; the end at the text's length and past it.
-fn token_at(text: &[u8], at: usize) -> Token
-    ensures { λ r. ⌜ r ≡ tokenAt (now (text .entry)) at ⌝ }
+// The longest token that starts at `at`, or one stray byte; the end at the text's length.
+fn token_at(text: &[u8], at: Place) -> Token
+    requires { ⌜ Stands (now text) at ⌝ }
+    ensures { λ r. ⌜ r ≡ tokenAt (now (text .entry)) (at .start) ⌝ }
 {
-    if text.len() <= at {
-        return placed(Kind::End, text.len(), 0);
+    let byte = at.start;
+    if text.len() <= byte {
+        let end = Place {
+            start: text.len(),
+            len: 0,
+            line: at.line,
+            column: at.column,
+        };
+        return placed(Kind::End, end, 0);
     }
-    let first = text[at];
-    let next = at + 1;
+    let first = text[byte];
+    let next = byte + 1;
     match class_of(first) {
         Class::Lower => {
-            let len = run_end(text, next, Run::Word) - at;
+            let len = run_end(text, next, Run::Word) - byte;
             let kind = name_kind(len, first, byte_at(text, next), byte_at(text, next + 1));
             placed(kind, at, len)
         }
         Class::Upper => {
-            let len = run_end(text, next, Run::Word) - at;
+            let len = run_end(text, next, Run::Word) - byte;
             placed(Kind::Variable, at, len)
         }
         Class::Digit => {
             if first == b'0' {
                 return placed(Kind::Number, at, 1);
             }
-            let len = run_end(text, next, Run::Digits) - at;
+            let len = run_end(text, next, Run::Digits) - byte;
             placed(Kind::Number, at, len)
         }
         Class::Underscore => placed(Kind::Anonymous, at, 1),
@@ -98,9 +93,10 @@ fn token_at(text: &[u8], at: usize) -> Token
 }
 
 // The first token at or after `at`, in a program or on a facts line. At `%*`, and on a facts line, a `%` is a stray byte, and so is
-// a newline there. At the end of the text, and for `at` past it, the token is `End`, empty at the text's length.
-pub fn next_token(text: &[u8], at: usize, program: bool) -> Token
-    ensures { λ r. ⌜ r ≡ nextToken program (now (text .entry)) at ⌝ }
+// a newline there. At the end of the text the token is `End`, empty at the text's length.
+pub fn next_token(text: &[u8], at: Place, program: bool) -> Token
+    requires { ⌜ Stands (now text) at ⌝ }
+    ensures { λ r. ⌜ r ≡ nextToken program (now (text .entry)) (at .start) ⌝ }
 {
     token_at(text, gap::gap_end(text, at, program))
 }

@@ -1,24 +1,33 @@
-// The bytes that a place names, whether two names are the same, and the lesser of two counts.
+// The bytes that a place or a span names, whether two names are the same, and the lesser of two counts.
 ghost use Prim.Native.Nat.{min};
 ghost use mathlib.Core.Path.{_≡_};
-ghost use Rattle.tokens.specs.Tokens.{part};
+ghost use Rattle.tokens.specs.Tokens.{bytes-in, part};
 ghost use Rattle.meaning.specs.Values.{same-bytes};
-use crate::Place;
+use crate::place::Place;
+use crate::place::Span;
+use crate::place::span_from;
 
-// The bytes of a place; of a place that reaches past the text, those that are there.
-pub fn part(text: &[u8], place: Place) -> &[u8]
-    ensures { λ r. ⌜ now r ≡ part (now (text .entry)) place ⌝ }
+// The bytes of a span; of a span that reaches past the text, those that are there.
+pub fn bytes_in(text: &[u8], span: Span) -> &[u8]
+    ensures { λ r. ⌜ now r ≡ bytes-in (now (text .entry)) span ⌝ }
 {
     let length = text.len();
-    let start = place.start;
+    let start = span.start;
     if length <= start {
         return &text[length..];
     }
-    if length - start <= place.len {
+    if length - start <= span.len {
         return &text[start..];
     }
-    let end = start + place.len;
+    let end = start + span.len;
     &text[start..end]
+}
+
+// The bytes of a place.
+pub fn part(text: &[u8], place: Place) -> &[u8]
+    ensures { λ r. ⌜ now r ≡ part (now (text .entry)) place ⌝ }
+{
+    bytes_in(text, span_from(place.start, place.len))
 }
 
 // Are the bytes the same? Lengths are compared first, and then bytes from the last one back: names that share a long start differ there.

@@ -9,7 +9,6 @@ use crate::class::is_word;
 
 // The sorts of bytes that make a run.
 pub enum Run {
-    Blanks,
     // the blanks that may stand on a line
     LineBlanks,
     // what is left of a line, without its newline
@@ -19,7 +18,7 @@ pub enum Run {
 }
 
 // Is the byte a blank: a space, a tab or, in a program, a newline?
-fn is_blank(byte: u8, program: bool) -> bool
+pub(crate) fn is_blank(byte: u8, program: bool) -> bool
     ensures { λ r. ⌜ r ≡ isBlank program byte ⌝ }
 {
     match byte {
@@ -35,7 +34,6 @@ fn goes_on(run: Run, byte: u8) -> bool
     ensures { λ r. ⌜ r ≡ goesOn run byte ⌝ }
 {
     match run {
-        Run::Blanks => is_blank(byte, true),
         Run::LineBlanks => is_blank(byte, false),
         Run::Line => byte != b'\n',
         Run::Word => is_word(class_of(byte)),

@@ -9,14 +9,14 @@ use frames::ends_with;
 use frames::newline;
 use frames::number_behind;
 use frames::read_bytes;
-use tokens::parts::part;
-use tokens::place_from;
+use tokens::parts::bytes_in;
+use tokens::place::span_from;
 
 // The texts are the program, of this length, and the output behind it.
 fn trial(texts: &[u8], program_len: usize, output_len: usize, code: u64, places: &mut [u16]) {
     fill(places);
-    let program = part(texts, place_from(0, program_len));
-    let output = part(texts, place_from(program_len, output_len));
+    let program = bytes_in(texts, span_from(0, program_len));
+    let output = bytes_in(texts, span_from(program_len, output_len));
     let answer = check(program, output, code, places);
     report(answer, places);
 }

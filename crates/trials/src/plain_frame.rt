@@ -12,8 +12,8 @@ use frames::number_behind;
 use frames::read_bytes;
 use plain::Written;
 use plain::write_plain;
-use tokens::parts::part;
-use tokens::place_from;
+use tokens::parts::bytes_in;
+use tokens::place::span_from;
 
 // What a byte of the buffer is before the call.
 fn pattern(at: usize) -> u8 {
@@ -54,7 +54,7 @@ fn report(written: Written, buffer: &[u8]) {
     say(b" length ");
     number(length as u64);
     ending(is_kept(buffer, length));
-    say(part(buffer, place_from(0, length)));
+    say(bytes_in(buffer, span_from(0, length)));
     say(b"\n");
 }
 
@@ -79,7 +79,7 @@ pub fn answer(line: &[u8], texts: &mut [u8], buffer: &mut [u8]) -> bool {
     if !newline() {
         return false;
     }
-    let program = part(texts, place_from(0, n));
+    let program = bytes_in(texts, span_from(0, n));
     if buffer.len() < most {
         return false;
     }

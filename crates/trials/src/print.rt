@@ -1,6 +1,6 @@
 // An answer's words, numbers and places, on standard output.
 use libc::STDOUT_FILENO;
-use tokens::Place;
+use tokens::place::Place;
 
 pub fn say(words: &[u8]) {
     io::write_all(STDOUT_FILENO, words);
@@ -18,6 +18,10 @@ pub fn place(text: &[u8], place: Place) {
     number(place.start as u64);
     say(b" ");
     number(place.len as u64);
+    say(b" ");
+    number(place.line as u64);
+    say(b" ");
+    number(place.column as u64);
 }
 
 // The line's last word: whether what the answer does not write is as it was.

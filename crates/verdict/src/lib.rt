@@ -11,7 +11,7 @@ use fields::answer::smaller;
 use fields::answer::unsatisfied;
 use judge::Judgement;
 use judge::Kind;
-use rule_places::sentence;
+use rule_places::rule_place;
 use tokens::parts::least;
 use tokens::sizes::MOST_LITERALS;
 
@@ -43,7 +43,7 @@ pub fn verdict(program: &[u8], judgement: Judgement, atoms: usize) -> Answer
         Kind::OutOfRange => refused(
             OUT_OF_RANGE,
             Text::Program,
-            sentence(program, false, judgement.rule),
+            rule_place(program, judgement.rule),
         ),
         Kind::Unsatisfied => {
             let positions = judgement.positions;

@@ -1,5 +1,6 @@
 //! Damaged texts: bytes and tokens dropped, repeated, exchanged or put in.
 
+use super::style::ENDS;
 use crate::lexer::{tokens, Language};
 use crate::random::Random;
 
@@ -13,6 +14,15 @@ const WORDS: &[&str] = &[
     "99999999999999999999", "%", "%*", "% b\n", ":", "!", ":~", "not not", "X=X", "X=1", "not a", "a=b", "-a=b", "1=1",
     "-1", "- 1", "p()", "p(-a)", "Xs_1", "\u{e9}", "#", "\"a\"", "a|b", " ", "\n", "\r\n",
 ];
+
+/// A program with one to three places damaged, and often another end, so that its end too stands on many a line.
+pub fn damaged_program(random: &mut Random, text: &[u8]) -> Vec<u8> {
+    let mut bytes = damaged(random, text, Language::Program);
+    if random.chance(25) {
+        bytes.extend_from_slice(random.pick(ENDS).as_bytes());
+    }
+    bytes
+}
 
 /// A text with one to three places damaged.
 pub fn damaged(random: &mut Random, text: &[u8], language: Language) -> Vec<u8> {

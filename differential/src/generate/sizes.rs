@@ -1,5 +1,6 @@
 //! Texts at the sizes' ends: one below, at, and one past each.
 
+use super::style;
 use crate::random::Random;
 
 /// A program and a facts line at or past some size.
@@ -12,22 +13,28 @@ pub struct Sized {
 
 /// A text pair around one of the sizes.
 pub fn sized(random: &mut Random) -> Sized {
-    match random.below(22) {
-        0..=2 => program_only(words(random)),
+    match random.below(24) {
+        0..=2 => some_program(random, words),
         3 | 4 => facts_only(long_fact(random)),
-        5..=7 => program_only(arguments(random)),
+        5..=7 => some_program(random, arguments),
         8 | 9 => facts_only(format!("{}.", atom_with_arguments(random))),
-        10..=12 => program_only(literals(random)),
-        13..=15 => program_only(variables(random)),
-        16 => program_only(rules(random)),
+        10..=12 => some_program(random, literals),
+        13..=15 => some_program(random, variables),
+        16 => some_program(random, rules),
         17 => many_facts(random),
         18..=20 => number(random),
         _ => padded(random),
     }
 }
 
-fn program_only(text: String) -> Sized {
-    Sized { program: text.into_bytes(), facts: b"a.".to_vec(), output_length: None }
+/// A program of some kind, in some style.
+fn some_program(random: &mut Random, kind: fn(&mut Random) -> String) -> Sized {
+    let text = kind(random);
+    program_only(style::styled(random, &text))
+}
+
+fn program_only(program: Vec<u8>) -> Sized {
+    Sized { program, facts: b"a.".to_vec(), output_length: None }
 }
 
 fn facts_only(text: String) -> Sized {
@@ -143,29 +150,45 @@ fn number(random: &mut Random) -> Sized {
     ]);
     let sign = random.pick(&["", "-", "- ", "--"]);
     let number = if random.chance(5) { "9".repeat(random.between(20, 5_000)) } else { number.to_string() };
-    match random.below(5) {
-        0 => facts_only(format!("p({sign}{number}).")),
-        1 => program_only(format!("p({sign}{number}).")),
-        2 => program_only(format!("p:-{sign}{number}=1.")),
-        3 => program_only(format!("p(X):-X=1-{sign}{number}.")),
-        _ => program_only(format!("p {sign}{number}.")),
-    }
+    let text = match random.below(5) {
+        0 => return facts_only(format!("p({sign}{number}).")),
+        1 => format!("p({sign}{number})."),
+        2 => format!("p:-{sign}{number}=1."),
+        3 => format!("p(X):-X=1-{sign}{number}."),
+        _ => format!("p {sign}{number}."),
+    };
+    program_only(style::styled(random, &text))
 }
 
 /// Texts about 65,536 bytes, filled up by comments or blanks, with what matters at their ends.
 fn padded(random: &mut Random) -> Sized {
     let length = about(random, 65_536);
     let rules = b"at(u1,north).held(U,S):-at(U,S).";
-    let mut program = rules.to_vec();
-    if random.chance(60) {
-        let filling = random.pick(&["%", " ", "\n"]).as_bytes()[0];
-        program = vec![filling; length - rules.len() - 1];
-        program.push(b'\n');
-        program.extend_from_slice(rules);
-    }
+    let filling = random.pick(&["%", " ", "\t", "\n"]).as_bytes()[0];
+    let program = match random.below(10) {
+        0..=4 => filled_before(filling, rules, length),
+        5 => filled_before(filling, b".", length),
+        6 => filled_behind(b"a", filling, length),
+        _ => rules.to_vec(),
+    };
     Sized {
         program,
         facts: random.pick(&["at(u1,north). held(u1,north).", "at(u1,north).", "at(u1,north). held(u1,south)."]).into(),
         output_length: random.chance(60).then(|| about(random, 65_536)),
     }
+}
+
+/// A text of a length with these bytes at its end, on a line of their own.
+fn filled_before(filling: u8, last: &[u8], length: usize) -> Vec<u8> {
+    let mut text = vec![filling; length - last.len() - 1];
+    text.push(b'\n');
+    text.extend_from_slice(last);
+    text
+}
+
+/// A text of a length with these bytes at its start.
+fn filled_behind(first: &[u8], filling: u8, length: usize) -> Vec<u8> {
+    let mut text = first.to_vec();
+    text.resize(length, filling);
+    text
 }

@@ -1,4 +1,5 @@
-//! Texts of rules and facts, and the same tokens written otherwise: blanks, comments, `<>` for `!=`, `-0` for `0`.
+//! Texts of rules and facts, and the same tokens written otherwise: over several lines, with blanks and comments, `<>`
+//! for `!=`, `-0` for `0`.
 
 use crate::lexer::{tokens, Kind, Language};
 use crate::random::Random;
@@ -9,8 +10,15 @@ pub const OPERATIONS: &[&str] = &["+", "-", "*"];
 /// The comparisons' marks.
 pub const RELATIONS: &[&str] = &["=", "!=", "<>", "<", "<=", ">", ">="];
 
-const BLANKS: &[&str] = &[" ", "  ", "\t", "\n", " \n", "\n\n"];
-const COMMENTS: &[&str] = &["%\n", "% a.\n", "%%*\n", "% *%\n", "%b:-\u{e9}\r\n", "\t%:-not(\n "];
+const BLANKS: &[&str] = &[" ", "  ", "\t", "\n", " \n", "\n\n", "\n\t", "\t \n\n "];
+const COMMENTS: &[&str] =
+    &["%\n", "% a.\n", "%%*\n", "% *%\n", "%b:-\u{e9}\r\n", "\t%:-not(\n ", "%\u{2192}\r\r\t\n", "%\n%\n\n"];
+/// What stands behind a text's last token: a last newline or none, a comment with or without its own.
+pub const ENDS: &[&str] = &["", "", "\n", "\n\n", "\t\n ", " % end", "%", "\n%\n", "% \u{e9}\r\n", "\n\t% \u{2192}"];
+/// Between two rules that stand on lines of their own.
+const RULE_ENDS: &[&str] = &["\n", "\n", "\n", "\n\n", " % a:-b.\n", "\n% \u{e9}\n", "\t%\r\n\n\n"];
+/// Behind `:-` and behind a comma, where a body goes over several lines.
+const INDENTS: &[&str] = &["\n\t", "\n    ", " % c\n\t", " "];
 
 /// A rule from its head and body, either perhaps empty.
 pub fn rule_text(head: &str, body: &[String]) -> String {
@@ -18,6 +26,35 @@ pub fn rule_text(head: &str, body: &[String]) -> String {
         return format!("{head}.");
     }
     format!("{head}:-{}.", body.join(","))
+}
+
+/// A program text in some style: as it is, its tokens far apart, or its rules on lines of their own.
+pub fn styled(random: &mut Random, text: &str) -> Vec<u8> {
+    match random.below(100) {
+        0..=34 => text.as_bytes().to_vec(),
+        35..=64 => restyled(random, text),
+        _ => laid_out(random, text),
+    }
+}
+
+/// A program text with each rule on lines of its own, as people write it.
+fn laid_out(random: &mut Random, text: &str) -> Vec<u8> {
+    let broken = if random.chance(50) { random.between(5, 80) } else { 0 };
+    let mut written = random.pick(&["", "", "% \u{e9}\n", "\n\n"]).as_bytes().to_vec();
+    let mut from = 0;
+    for token in tokens(text.as_bytes(), Language::Program) {
+        let behind = match token.kind {
+            Kind::Dot => random.pick(RULE_ENDS),
+            Kind::If | Kind::Comma if random.chance(broken) => random.pick(INDENTS),
+            _ => continue,
+        };
+        written.extend_from_slice(&text.as_bytes()[from..token.end]);
+        written.extend_from_slice(behind.as_bytes());
+        from = token.end;
+    }
+    written.extend_from_slice(&text.as_bytes()[from..]);
+    written.extend_from_slice(random.pick(ENDS).as_bytes());
+    written
 }
 
 /// A program text with blanks and comments between its tokens, and some of them spelled another way.
@@ -38,7 +75,7 @@ pub fn restyled(random: &mut Random, text: &str) -> Vec<u8> {
         }
         written.extend_from_slice(respelled(random, token.kind, spelling).as_bytes());
     }
-    written.extend_from_slice(random.pick(&["", "", "\n", " % end", "%", "\n%\n"]).as_bytes());
+    written.extend_from_slice(random.pick(ENDS).as_bytes());
     written
 }
 

@@ -8,7 +8,9 @@ returns : tie.Need-returns
 returns c = (refl, λ z. absurd (z (c .if1 .taken)))
 
 fact-part-requires : tie.Need-fact-part-requires
-fact-part-requires c κs = c .before .before .before .pre (c .if1 .left)
+fact-part-requires c κs =
+    let start = c .before .before .before in
+    start .pre (c .if1 .left)
 
 pub fault-of-spec : {M : Type 1} → statement M
 fault-of-spec = tie.close (tie.spec returns fact-part-requires (λ c. search needs))

@@ -41,13 +41,13 @@ add-requires c κs =
     let slot-of = seek .before .before in
     let if1 = slot-of .before in
     let start = if1 .before .before .before .before .before in
-    rw (c .place-from .ensures) (addable _ _ _ (start .pre .0) (start .args .start) _ (start .pre .1) _ (seek .seek .ensures) _ (count .count .ensures) (enum-told2 .enum-told2 .given .1) _ (slot-of .slot-of .ensures) (if1 .if1 .left) (λ e. if2 .if2 .left (e ∙ sym (capacity .capacity .ensures))))
+    rw (c .span-from .ensures) (addable _ _ _ (start .pre .0) (start .args .start) _ (start .pre .1) _ (seek .seek .ensures) _ (count .count .ensures) (enum-told2 .enum-told2 .given .1) _ (slot-of .slot-of .ensures) (if1 .if1 .left) (λ e. if2 .if2 .left (e ∙ sym (capacity .capacity .ensures))))
 
 returns-4 : tie.Need-returns-4
 returns-4 c =
     let add = c .before .before in
-    let place-from = add .before in
-    let if2 = place-from .before .before in
+    let span-from = add .before in
+    let if2 = span-from .before .before in
     let capacity = if2 .before in
     let count = capacity .before .before in
     let enum-told2 = count .before .before in
@@ -55,7 +55,7 @@ returns-4 c =
     let slot-of = seek .before .before in
     let if1 = slot-of .before in
     let start = if1 .before .before .before .before .before in
-    rw (add .add .ensures, place-from .place-from .ensures) (interned-new _ _ _ (start .pre .0) (start .args .start) _ (start .pre .1) _ (seek .seek .ensures) _ (count .count .ensures) (enum-told2 .enum-told2 .given .1) _ (slot-of .slot-of .ensures) (if1 .if1 .left) (λ e. if2 .if2 .left (e ∙ sym (capacity .capacity .ensures))))
+    rw (add .add .ensures, span-from .span-from .ensures) (interned-new _ _ _ (start .pre .0) (start .args .start) _ (start .pre .1) _ (seek .seek .ensures) _ (count .count .ensures) (enum-told2 .enum-told2 .given .1) _ (slot-of .slot-of .ensures) (if1 .if1 .left) (λ e. if2 .if2 .left (e ∙ sym (capacity .capacity .ensures))))
 
 pub intern-spec : {M : Type 1} → statement M
 intern-spec =

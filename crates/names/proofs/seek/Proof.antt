@@ -26,8 +26,8 @@ loop-holds c =
     let start = c .before .before .before .before .before in
     rw (c .head .ensures) (seeking-starts _ _ _ _ (start .pre .1) _ (start .pre .0 .heads (start .args .slot) (slot-inside _ _ (start .pre .1))))
 
-place-requires : tie.Need-place-requires Inv-loop μ-loop
-place-requires c κs =
+span-requires : tie.Need-span-requires Inv-loop μ-loop
+span-requires c κs =
     let loop = c .before in
     let start = loop .before .before .before .before .before .before in
     let w = loop .loop .inv .within in let r = start .pre .0 .room in omega arith
@@ -36,10 +36,10 @@ returns : tie.Need-returns Inv-loop μ-loop
 returns c =
     let same-bytes = c .before in
     let bytes-at = same-bytes .before in
-    let place = bytes-at .before in
-    let loop = place .before .before in
+    let span = bytes-at .before in
+    let loop = span .before .before in
     let start = loop .before .before .before .before .before .before in
-    seeking-found _ _ _ _ (start .pre .1) _ (loop .loop .inv) (omega arith) (sym (name-read _ _ _ _ _ _ (place .place .ensures) (bytes-at .bytes-at .ensures)) ∙ same-bytes-sound _ _ (sym (same-bytes .same-bytes .ensures) ∙ c .if1 .taken))
+    seeking-found _ _ _ _ (start .pre .1) _ (loop .loop .inv) (omega arith) (sym (name-read _ _ _ _ _ _ (span .span .ensures) (bytes-at .bytes-at .ensures)) ∙ same-bytes-sound _ _ (sym (same-bytes .same-bytes .ensures) ∙ c .if1 .taken))
 
 link-requires : tie.Need-link-requires Inv-loop μ-loop
 link-requires c κs =
@@ -59,11 +59,11 @@ loop-again c =
     let if1 = c .before in
     let same-bytes = if1 .before in
     let bytes-at = same-bytes .before in
-    let place = bytes-at .before in
-    let loop-test = place .before in
+    let span = bytes-at .before in
+    let loop-test = span .before in
     let loop = loop-test .before in
     let start = loop .before .before .before .before .before .before in
-    rw (c .link .ensures) (seeking-on _ _ _ _ (start .pre .1) _ _ (loop .loop .inv) (omega arith) (λ e. differs _ _ (sym (same-bytes .same-bytes .ensures) ∙ if1 .if1 .left) (name-read _ _ _ _ _ _ (place .place .ensures) (bytes-at .bytes-at .ensures) ∙ e)) (start .pre .0 .links (loop .loop .link - 1) (let w = loop .loop .inv .within in let h = loop-test .loop-test .taken in omega arith)))
+    rw (c .link .ensures) (seeking-on _ _ _ _ (start .pre .1) _ _ (loop .loop .inv) (omega arith) (λ e. differs _ _ (sym (same-bytes .same-bytes .ensures) ∙ if1 .if1 .left) (name-read _ _ _ _ _ _ (span .span .ensures) (bytes-at .bytes-at .ensures) ∙ e)) (start .pre .0 .links (loop .loop .link - 1) (let w = loop .loop .inv .within in let h = loop-test .loop-test .taken in omega arith)))
 
 returns-2 : tie.Need-returns-2 Inv-loop μ-loop
 returns-2 c = seeking-none _ _ _ _ (c .before .before .before .before .before .before .before .pre .1) _ (c .before .loop .inv) (c .loop-test .left)
@@ -77,7 +77,7 @@ seek-spec =
     head-requires
     loop-holds
     (λ c. search needs)
-    place-requires
+    span-requires
     (λ c κs. search needs)
     (λ c κs. search needs)
     returns

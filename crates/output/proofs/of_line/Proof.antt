@@ -8,14 +8,16 @@ use Rattle.output.proofs.of_line.Tie as tie
 
 returns : tie.Need-returns
 returns c =
-    let if1 = c .before .before .before in
-    let a = if1 .before .before .args in
-    c .refused .ensures ∙ ap (refused (a .read .code)) (c .before .on-line .ensures) ∙ sym (line-refused (a .line) (a .read) (if1 .if1 .taken))
+    let on-line = c .before in
+    let if1 = on-line .before .before in
+    let start = if1 .before .before in
+    c .refused .ensures ∙ ap (refused (start .args .read .code)) (on-line .on-line .ensures) ∙ sym (line-refused (start .args .line) (start .args .read) (if1 .if1 .taken))
 
 returns-2 : tie.Need-returns-2
 returns-2 c =
-    let a = c .before .before .before .args in
-    c .reported .ensures ∙ sym (line-facts (a .line) (a .read) (c .before .if1 .left))
+    let if1 = c .before in
+    let start = if1 .before .before in
+    c .reported .ensures ∙ sym (line-facts (start .args .line) (start .args .read) (if1 .if1 .left))
 
 pub of-line-spec : {M : Type 1} → statement M
 of-line-spec = tie.close (tie.spec (λ c κs. search needs) (λ c κs. search needs) returns (λ c κs. search needs) returns-2)

@@ -1,7 +1,12 @@
 -- `write_tokens` meets its contract. The invariant: what is written, and what is still to be written of the tokens from this one on, are the text's
 -- plain form. The measure is what is left of the text. Assumes nothing.
 use Prim.Native.Nat.{_-_}
+use native.Mathlib.Omega.{arith}
+use mathlib.Core.Bool.{false}
+use mathlib.Core.Path.{refl}
 use lib.ListN.{length}
+use Rattle.tokens.proofs.Counting.{start-stands}
+use Rattle.syntax.proofs.Tokens.{past-countable, past-here}
 use Rattle.plaintokens.proofs.Puts.{put-length}
 use Rattle.plaintokens.proofs.Turns.{SoFar, so-far-nothing, all-written, turn-room, turn-on, turn-less}
 use Rattle.plaintokens.proofs.Theorems.{room-for, put-plain}
@@ -18,32 +23,59 @@ abbrev μ-loop : tie.MeasureT-loop
 loop-holds : tie.Need-loop-holds Inv-loop μ-loop
 loop-holds c = so-far-nothing _ _ _ (c .token-at .ensures)
 
+token-at-requires : tie.Need-token-at-requires Inv-loop μ-loop
+token-at-requires c κs = start-stands _
+
+past-requires : tie.Need-past-requires Inv-loop μ-loop
+past-requires c κs =
+    let loop = c .before .before in
+    let start = loop .before .before .before .before in
+    past-countable false (start .args .text .now) (loop .loop .inv .at) _ (loop .loop .inv .here) (omega arith)
+
+token-at-requires-2 : tie.Need-token-at-requires-2 Inv-loop μ-loop
+token-at-requires-2 c κs =
+    let loop = c .before .before .before in
+    let start = loop .before .before .before .before in
+    rw (c .past .ensures) (past-here false (start .args .text .now) (loop .loop .inv .at) _ (loop .loop .inv .here) (λ q. refl))
+
 put-token-requires : tie.Need-put-token-requires Inv-loop μ-loop
 put-token-requires c κs =
-    let b = c .before .before in
-    let t = b .before .before in
-    let l = t .before .before in
-    turn-room (l .loop .inv) (t .if1 .taken) _ (b .before .token-at2 .ensures) _ (b .byte-at .ensures) _ (c .before .left-out .ensures) (room-for _ (l .before .before .before .before .pre))
+    let left-out = c .before in
+    let byte-at = left-out .before in
+    let token-at2 = byte-at .before in
+    let past = token-at2 .before in
+    let if1 = past .before in
+    let loop = if1 .before .before in
+    let start = loop .before .before .before .before in
+    turn-room (loop .loop .inv) (if1 .if1 .taken) _ (rw (past .past .ensures) at (token-at2 .token-at2 .ensures)) _ (byte-at .byte-at .ensures) _ (left-out .left-out .ensures) (room-for _ (start .pre))
 
 loop-less : tie.Need-loop-less Inv-loop μ-loop
 loop-less c =
-    let b = c .before .before .before .before .before .before .before in
-    turn-less (b .before .before .before .loop .inv) (b .before .if1 .taken) _ (b .token-at2 .ensures)
+    let token-at2 = c .before .before .before .before .before .before .before in
+    let past = token-at2 .before in
+    let if1 = past .before in
+    let loop = if1 .before .before in
+    turn-less (loop .loop .inv) (if1 .if1 .taken) _ (rw (past .past .ensures) at (token-at2 .token-at2 .ensures))
 
 loop-again : tie.Need-loop-again Inv-loop μ-loop
 loop-again c =
-    let p = c .before .before .before in
-    let o = p .before .before in
-    let b = o .before .before in
-    turn-on (b .before .before .before .loop .inv) (b .before .if1 .taken) _ (b .token-at2 .ensures) _ (o .before .byte-at .ensures) _ (o .left-out .ensures) (p .put-token .ensures) _ (c .latest .ensures)
+    let put-token = c .before .before .before in
+    let left-out = put-token .before .before in
+    let byte-at = left-out .before in
+    let token-at2 = byte-at .before in
+    let past = token-at2 .before in
+    let if1 = past .before in
+    let loop = if1 .before .before in
+    turn-on (loop .loop .inv) (if1 .if1 .taken) _ (rw (past .past .ensures) at (token-at2 .token-at2 .ensures)) _ (byte-at .byte-at .ensures) _ (left-out .left-out .ensures) (put-token .put-token .ensures) _ (c .latest .ensures)
 
 same-length : tie.Need-same-length Inv-loop μ-loop
 same-length c = put-length (c .before .before .loop .inv .put)
 
 returns : tie.Need-returns Inv-loop μ-loop
 returns c =
-    let l = c .before .before in
-    put-plain (l .before .before .before .before .args .text .now) (all-written (l .loop .inv) (c .if1 .left))
+    let loop = c .before .before in
+    let start = loop .before .before .before .before in
+    put-plain (start .args .text .now) (all-written (loop .loop .inv) (c .if1 .left))
 
 pub write-tokens-spec : {M : Type 1} → statement M
 write-tokens-spec =
@@ -51,9 +83,10 @@ write-tokens-spec =
     (tie.spec
     Inv-loop
     μ-loop
-    (λ c κs. search needs)
+    token-at-requires
     loop-holds
-    (λ c κs. search needs)
+    past-requires
+    token-at-requires-2
     (λ c κs. search needs)
     (λ c κs. search needs)
     put-token-requires

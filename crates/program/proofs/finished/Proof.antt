@@ -4,9 +4,7 @@ use Rattle.program.proofs.finished.Statement.{statement}
 use Rattle.program.proofs.finished.Tie as tie
 
 returns : tie.Need-returns
-returns c =
-    let if1 = c .before in
-    rw (if1 .if1 .taken) (c .refused .ensures)
+returns c = rw (c .before .if1 .taken) (c .refused .ensures)
 
 returns-2 : tie.Need-returns-2
 returns-2 c = rw (c .if1 .left)

@@ -6,9 +6,7 @@ use Rattle.program.proofs.read_program.Statement.{statement}
 use Rattle.program.proofs.read_program.Tie as tie
 
 returns : tie.Need-returns
-returns c =
-    let if1 = c .before in
-    let long = if1 .if1 .taken in over-size (omega arith) (c .refused .ensures)
+returns c = let long = c .before .if1 .taken in over-size (omega arith) (c .refused .ensures)
 
 read-rules-requires : tie.Need-read-rules-requires
 read-rules-requires c κs =
@@ -17,18 +15,7 @@ read-rules-requires c κs =
     (if1 .if1 .left, start .pre)
 
 returns-2 : tie.Need-returns-2
-returns-2 c =
-    let read-rules = c .before .before .before .before .before .before in
-    read-rules .read-rules .ensures
+returns-2 c = c .before .before .before .before .before .before .read-rules .ensures
 
 pub read-program-spec : {M : Type 1} → statement M
-read-program-spec =
-    tie.close
-    (tie.spec
-    (λ c κs. search needs)
-    returns
-    read-rules-requires
-    (λ c. search needs)
-    (λ c. search needs)
-    (λ c. search needs)
-    returns-2)
+read-program-spec = tie.close (tie.spec (λ c κs. search needs) returns read-rules-requires (λ c. search needs) (λ c. search needs) (λ c. search needs) returns-2)

@@ -64,22 +64,24 @@ returns-2 c =
 
 add-count : tie.Need-add-count Inv-loop μ-loop
 add-count c =
-    let if1 = c .before .before .before in
+    let if2 = c .before in
+    let if1 = if2 .before .before .before in
     let put-rule = if1 .before .before .before .before .before .before .before .before .before in
     let loop = put-rule .before .before .before .before .before in
     let start = loop .before .before .before .before .before .before in
-    let few = room (start .args .program .now) (start .args .output .now) _ _ _ (start .pre .0) (start .pre .1) _ _ _ _ _ _ _ (loop .loop .inv) _ _ _ _ _ (put-rule .put-rule .ensures) (if1 .if1 .left) (c .if2 .left) in omega arith
+    let few = room (start .args .program .now) (start .args .output .now) _ _ _ (start .pre .0) (start .pre .1) _ _ _ _ _ _ _ (loop .loop .inv) _ _ _ _ _ (put-rule .put-rule .ensures) (if1 .if1 .left) (if2 .if2 .left) in omega arith
 
 loop-less : tie.Need-loop-less Inv-loop μ-loop
 loop-less c =
-    let if1 = c .before .before .before in
+    let if2 = c .before in
+    let if1 = if2 .before .before .before in
     let put-rule = if1 .before .before .before .before .before .before .before .before .before in
     let loop = put-rule .before .before .before .before .before in
     let start = loop .before .before .before .before .before .before in
-    let few = room (start .args .program .now) (start .args .output .now) _ _ _ (start .pre .0) (start .pre .1) _ _ _ _ _ _ _ (loop .loop .inv) _ _ _ _ _ (put-rule .put-rule .ensures) (if1 .if1 .left) (c .if2 .left) in omega arith
+    let few = room (start .args .program .now) (start .args .output .now) _ _ _ (start .pre .0) (start .pre .1) _ _ _ _ _ _ _ (loop .loop .inv) _ _ _ _ _ (put-rule .put-rule .ensures) (if1 .if1 .left) (if2 .if2 .left) in omega arith
 
 loop-again : tie.Need-loop-again Inv-loop μ-loop
-loop-again c = goes-on (c .before .before .before .before .before .before .before .before .before .before .before .before .before .before .before .before .before .before .before .before .before .before .before .args .program .now) (c .before .before .before .before .before .before .before .before .before .before .before .before .before .before .before .before .before .before .before .before .before .before .before .args .output .now) _ _ _ (c .before .before .before .before .before .before .before .before .before .before .before .before .before .before .before .before .before .before .before .before .before .before .before .pre .0) (c .before .before .before .before .before .before .before .before .before .before .before .before .before .before .before .before .before .before .before .before .before .before .before .pre .1) _ _ _ _ _ _ _ (c .before .before .before .before .before .before .before .before .before .before .before .before .before .before .before .before .before .loop .inv) _ _ _ _ _ (c .before .before .before .before .before .before .before .before .before .before .before .before .put-rule .ensures) (c .before .before .before .if1 .left) (c .if2 .left) refl (search (needs, c .before .before .before .before .before .before .before .before .before .before .before .before .before .before .before .before .before .loop .inv .names-long)) _ (search (needs, c .before .before .before .before .before .before .before .before .before .before .before .before .before .before .before .before .before .loop .inv .variables-long)) _ (c .before .earlier .ensures)
+loop-again c = goes-on (c .before .before .before .before .before .before .before .before .before .before .before .before .before .before .before .before .before .before .before .before .before .before .before .before .args .program .now) (c .before .before .before .before .before .before .before .before .before .before .before .before .before .before .before .before .before .before .before .before .before .before .before .before .args .output .now) _ _ _ (c .before .before .before .before .before .before .before .before .before .before .before .before .before .before .before .before .before .before .before .before .before .before .before .before .pre .0) (c .before .before .before .before .before .before .before .before .before .before .before .before .before .before .before .before .before .before .before .before .before .before .before .before .pre .1) _ _ _ _ _ _ _ (c .before .before .before .before .before .before .before .before .before .before .before .before .before .before .before .before .before .before .loop .inv) _ _ _ _ _ (c .before .before .before .before .before .before .before .before .before .before .before .before .before .put-rule .ensures) (c .before .before .before .before .if1 .left) (c .before .if2 .left) refl (search (needs, c .before .before .before .before .before .before .before .before .before .before .before .before .before .before .before .before .before .before .loop .inv .names-long)) _ (search (needs, c .before .before .before .before .before .before .before .before .before .before .before .before .before .before .before .before .before .before .loop .inv .variables-long)) _ (c .before .before .earlier .ensures)
 
 pub read-rules-spec : {M : Type 1} → statement M
 read-rules-spec =

@@ -1,39 +1,39 @@
 -- `answer` meets its contract: the first of the lines behind ANSWER holds the facts, and the others begin behind it.
 -- Assumes nothing.
-use native.Mathlib.Omega.{arith}
 use mathlib.Core.Path.{sym, ap, ap₂, _∙_}
-use lib.ListN.{length}
 use borrow.Author.Tests.{ltb-true, ltb-false, not-true, not-false}
 use borrow.Author.Needs.{needs}
 use Rattle.report.specs.declared.word.Word.the-variants.{Answer}
 use Rattle.report.specs.Report.{refused, found}
-use Rattle.report.proofs.LineList.{its-end-inside}
+use Rattle.report.proofs.Located.{its-place, behind-its}
 use Rattle.report.proofs.Reporting.{answer-alone, answer-facts}
 use Rattle.report.proofs.answer.Statement.{statement}
 use Rattle.report.proofs.answer.Tie as tie
 
 returns : tie.Need-returns
 returns c =
-    c .refused .ensures
-    ∙ ap refused (c .before .place-from .ensures)
-    ∙ sym (answer-alone _ _ (ltb-false _ _ (sym (c .before .before .before .has-line .ensures) ∙ not-true _ (c .before .before .if1 .taken))))
+    let with-len = c .before in
+    let has-line = with-len .before .before in
+    let start = has-line .before .before in
+    let left = ltb-false _ _ (sym (has-line .has-line .ensures) ∙ not-true _ (with-len .before .if1 .taken)) in
+    c .refused .ensures ∙ ap refused (with-len .with-len .ensures) ∙ sym (answer-alone _ _ (start .pre) left)
 
-add-next-line : tie.Need-add-next-line
-add-next-line c =
-    let line = c .before in
-    let a = line .before .before .before .before .args in
-    let here = ltb-true (a .at) (length (a .output .now)) (sym (line .before .before .has-line .ensures) ∙ not-false _ (line .before .if1 .left)) in
-    omega (arith, its-end-inside (a .output .now) (line .line-from .result .now) (a .at) (line .line-from .ensures) here)
+line-behind-requires : tie.Need-line-behind-requires
+line-behind-requires c κs =
+    let start = c .before .before .before .before .before in
+    its-place _ _ _ (start .pre) (c .before .line-from .ensures) _ (c .with-len2 .ensures)
 
 returns-2 : tie.Need-returns-2
 returns-2 c =
-    let next = c .before in
-    let facts = next .before in
-    let line = facts .before in
-    let here = ltb-true _ _ (sym (line .before .before .has-line .ensures) ∙ not-false _ (line .before .if1 .left)) in
+    let with-len2 = c .before .before in
+    let line-from = with-len2 .before in
+    let has-line = line-from .before .before in
+    let start = has-line .before .before in
+    let here = ltb-true _ _ (sym (has-line .has-line .ensures) ∙ not-false _ (line-from .before .if1 .left)) in
+    let next = behind-its _ _ _ (start .pre) (line-from .line-from .ensures) _ (with-len2 .with-len2 .ensures) _ (c .before .line-behind .ensures) in
     c .found .ensures
-    ∙ ap₂ (found Answer) (facts .place-from2 .ensures) (next .next-line .ensures)
-    ∙ sym (answer-facts _ _ here _ (line .line-from .ensures))
+    ∙ ap₂ (found Answer) (with-len2 .with-len2 .ensures) next
+    ∙ sym (answer-facts _ _ (start .pre) here _ (line-from .line-from .ensures))
 
 pub answer-spec : {M : Type 1} → statement M
 answer-spec =
@@ -45,7 +45,6 @@ answer-spec =
     returns
     (λ c κs. search needs)
     (λ c κs. search needs)
-    add-next-line
-    (λ c κs. search needs)
+    line-behind-requires
     (λ c κs. search needs)
     returns-2)

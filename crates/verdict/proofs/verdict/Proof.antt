@@ -10,7 +10,7 @@ use Rattle.verdict.proofs.verdict.Statement.{statement}
 use Rattle.verdict.proofs.verdict.Tie as tie
 
 returns : tie.Need-returns
-returns c = tells-range _ _ _ _ (c .before .before .enum-told .given .1) _ (c .before .sentence .ensures) _ (c .refused .ensures)
+returns c = tells-range _ _ _ _ (c .before .before .enum-told .given .1) _ (c .before .rule-place .ensures) _ (c .refused .ensures)
 
 add-unsatisfied : tie.Need-add-unsatisfied
 add-unsatisfied c =

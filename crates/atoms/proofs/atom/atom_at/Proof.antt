@@ -3,37 +3,38 @@ use native.Mathlib.Omega.{arith}
 use Rattle.rows.proofs.Growth.{room-less}
 use Rattle.names.proofs.Numbered.{grown-coded-name}
 use Rattle.rows.proofs.Terms.{name-below}
-use Rattle.syntax.proofs.Tokens.{within, forward}
+use Rattle.syntax.proofs.Tokens.{within, forward, past-countable}
 use Rattle.terms.proofs.TermLaws.{name-filled}
 use Rattle.atoms.proofs.AtomLaws.{ready-behind, ready-named, atom-stops, atom-goes, signed-over, signed-goes, atom-wrong}
 use borrow.Author.Needs.{needs}
 use Rattle.atoms.proofs.atom.atom_at.Statement.{statement}
 use Rattle.atoms.proofs.atom.atom_at.Tie as tie
 
+past-requires : tie.Need-past-requires
+past-requires c κs = past-countable (c .before .before .before .before .before .args .cursor .ground) (c .before .before .before .before .before .args .text .now) (c .before .before .before .before .before .args .cursor .at .start) _ (c .before .before .before .before .before .pre .ready .is-token) (omega arith)
+
 returns : tie.Need-returns
 returns c =
     let if2 = c .before in
     let word-code = if2 .before in
     let if1 = word-code .before in
-    let token-at = if1 .before .before .before in
-    let start = token-at .before .before .before .before .before .before in
-    atom-stops (start .args .program .now) (start .args .output .now) (start .args .text .now) (start .args .names .now) (start .args .variables .now) (start .args .cursor) (start .pre .ready) _ (token-at .token-at .ensures) _ (if1 .if1 .taken) _ (word-code .word-code .ensures) _ _ (if2 .if2 .taken) (c .stopped .ensures)
+    let start = if1 .before .before .before .before .before .before .before .before .before in
+    atom-stops (start .args .program .now) (start .args .output .now) (start .args .text .now) (start .args .names .now) (start .args .variables .now) (start .args .cursor) (start .pre .ready .ready) _ (start .pre .ready .is-token) _ (if1 .if1 .taken) _ (word-code .word-code .ensures) _ _ (if2 .if2 .taken) (c .stopped .ensures)
 
 name-number-requires : tie.Need-name-number-requires
 name-number-requires c κs =
     let if1 = c .before .before .before in
-    let token-at = if1 .before .before .before in
-    let start = token-at .before .before .before .before .before .before in
-    ((room-less _ _ 1 (start .pre .ready .room) (omega (arith, within (start .args .cursor .ground) (start .args .text .now) (start .args .cursor .at) _ (token-at .token-at .ensures), forward (start .args .cursor .ground) (start .args .text .now) (start .args .cursor .at) _ (token-at .token-at .ensures) (λ q. omega (arith, if1 .if1 .taken)))), start .pre .ready .source), name-filled (start .args .cursor .ground) (start .args .text .now) (start .args .cursor .at) _ (token-at .token-at .ensures) (if1 .if1 .taken))
+    let start = if1 .before .before .before .before .before .before .before .before .before in
+    ((room-less _ _ 1 (start .pre .ready .ready .room) (omega (arith, within (start .args .cursor .ground) (start .args .text .now) (start .args .cursor .at .start) _ (start .pre .ready .is-token), forward (start .args .cursor .ground) (start .args .text .now) (start .args .cursor .at .start) _ (start .pre .ready .is-token) (λ q. omega (arith, if1 .if1 .taken)))), start .pre .ready .ready .source), name-filled (start .args .cursor .ground) (start .args .text .now) (start .args .cursor .at .start) _ (start .pre .ready .is-token) (if1 .if1 .taken))
 
 named-atom-requires : tie.Need-named-atom-requires
 named-atom-requires c κs =
     let name-number = c .before .before .before .before in
     let if1 = name-number .before .before .before .before in
     let onward = if1 .before .before in
-    let token-at = onward .before in
-    let start = token-at .before .before .before .before .before .before in
-    record { ready = rw (onward .onward .ensures) (ready-named (start .args .program .now) (start .args .output .now) (start .args .text .now) (start .args .names .now) (start .args .variables .now) (start .args .cursor) (start .pre .ready) _ (token-at .token-at .ensures) (if1 .if1 .taken) _ _ (name-number .name-number .ensures)); small = name-below _ _ _ _ _ _ (name-number .name-number .ensures); bytes = _; stands = grown-coded-name _ _ _ _ (name-number .name-number .ensures .1) }
+    let past = onward .before in
+    let start = past .before .before .before .before .before .before in
+    record { ready = rw (onward .onward .ensures, past .past .ensures) (ready-named (start .args .program .now) (start .args .output .now) (start .args .text .now) (start .args .names .now) (start .args .variables .now) (start .args .cursor) (start .pre .ready .ready) _ (start .pre .ready .is-token) (if1 .if1 .taken) _ _ (name-number .name-number .ensures)); small = name-below _ _ _ _ _ _ (name-number .name-number .ensures); bytes = _; stands = grown-coded-name _ _ _ _ (name-number .name-number .ensures .1) }
 
 returns-2 : tie.Need-returns-2
 returns-2 c =
@@ -43,33 +44,31 @@ returns-2 c =
     let word-code = if2 .before in
     let if1 = word-code .before in
     let onward = if1 .before .before in
-    let token-at = onward .before in
-    let start = token-at .before .before .before .before .before .before in
-    atom-goes (start .args .program .now) (start .args .output .now) (start .args .text .now) (start .args .names .now) (start .args .variables .now) (start .args .cursor) (start .pre .ready) _ (token-at .token-at .ensures) _ (if1 .if1 .taken) _ (word-code .word-code .ensures) (if2 .if2 .left) _ _ (name-number .name-number .ensures) _ _ (rw (onward .onward .ensures) at (named-atom .named-atom .ensures))
+    let past = onward .before in
+    let start = past .before .before .before .before .before .before in
+    atom-goes (start .args .program .now) (start .args .output .now) (start .args .text .now) (start .args .names .now) (start .args .variables .now) (start .args .cursor) (start .pre .ready .ready) _ (start .pre .ready .is-token) _ (if1 .if1 .taken) _ (word-code .word-code .ensures) (if2 .if2 .left) _ _ (name-number .name-number .ensures) _ _ (rw (onward .onward .ensures, past .past .ensures) at (named-atom .named-atom .ensures))
 
 returns-3 : tie.Need-returns-3
 returns-3 c =
     let if3 = c .before in
     let if1 = if3 .before .before in
-    let token-at = if1 .before .before .before in
-    let start = token-at .before .before .before .before .before .before in
-    atom-wrong (start .args .program .now) (start .args .output .now) (start .args .text .now) (start .args .names .now) (start .args .variables .now) (start .args .cursor) (start .pre .ready) _ (token-at .token-at .ensures) _ _ _ (if1 .if1 .left) (if3 .if3 .taken) (c .stopped2 .ensures)
+    let start = if1 .before .before .before .before .before .before .before .before .before in
+    atom-wrong (start .args .program .now) (start .args .output .now) (start .args .text .now) (start .args .names .now) (start .args .variables .now) (start .args .cursor) (start .pre .ready .ready) _ (start .pre .ready .is-token) _ _ _ (if1 .if1 .left) (if3 .if3 .taken) (c .stopped2 .ensures)
 
 returns-4 : tie.Need-returns-4
 returns-4 c =
     let if4 = c .before in
     let if3 = if4 .before in
-    let token-at = if3 .before .before .before .before .before in
-    let start = token-at .before .before .before .before .before .before in
-    signed-over (start .args .program .now) (start .args .output .now) (start .args .text .now) (start .args .names .now) (start .args .variables .now) (start .args .cursor) (start .pre .ready) _ (token-at .token-at .ensures) _ _ _ (if3 .if3 .left) (if4 .if4 .taken) (c .stopped3 .ensures)
+    let start = if3 .before .before .before .before .before .before .before .before .before .before .before in
+    signed-over (start .args .program .now) (start .args .output .now) (start .args .text .now) (start .args .names .now) (start .args .variables .now) (start .args .cursor) (start .pre .ready .ready) _ (start .pre .ready .is-token) _ _ _ (if3 .if3 .left) (if4 .if4 .taken) (c .stopped3 .ensures)
 
 minus-atom-requires : tie.Need-minus-atom-requires
 minus-atom-requires c κs =
     let if3 = c .before .before .before in
     let onward = if3 .before .before .before .before in
-    let token-at = onward .before in
-    let start = token-at .before .before .before .before .before .before in
-    rw (onward .onward .ensures) (ready-behind (start .args .program .now) (start .args .output .now) (start .args .text .now) (start .args .names .now) (start .args .variables .now) (start .args .cursor) (start .pre .ready) _ (token-at .token-at .ensures) 10 (if3 .if3 .left) (λ z. omega arith))
+    let past = onward .before in
+    let start = past .before .before .before .before .before .before in
+    rw (onward .onward .ensures, past .past .ensures) (ready-behind (start .args .program .now) (start .args .output .now) (start .args .text .now) (start .args .names .now) (start .args .variables .now) (start .args .cursor) (start .pre .ready .ready) _ (start .pre .ready .is-token) 10 (if3 .if3 .left) (λ z. omega arith))
 
 returns-5 : tie.Need-returns-5
 returns-5 c =
@@ -77,15 +76,15 @@ returns-5 c =
     let if4 = minus-atom .before .before .before in
     let if3 = if4 .before in
     let onward = if3 .before .before .before .before in
-    let token-at = onward .before in
-    let start = token-at .before .before .before .before .before .before in
-    signed-goes (start .args .program .now) (start .args .output .now) (start .args .text .now) (start .args .names .now) (start .args .variables .now) (start .args .cursor) (start .pre .ready) _ (token-at .token-at .ensures) _ (if3 .if3 .left) (if4 .if4 .left) _ _ (rw (onward .onward .ensures) at (minus-atom .minus-atom .ensures))
+    let past = onward .before in
+    let start = past .before .before .before .before .before .before in
+    signed-goes (start .args .program .now) (start .args .output .now) (start .args .text .now) (start .args .names .now) (start .args .variables .now) (start .args .cursor) (start .pre .ready .ready) _ (start .pre .ready .is-token) _ (if3 .if3 .left) (if4 .if4 .left) _ _ (rw (onward .onward .ensures, past .past .ensures) at (minus-atom .minus-atom .ensures))
 
 pub atom-at-spec : {M : Type 1} → statement M
 atom-at-spec =
     tie.close
     (tie.spec
-    (λ c κs. search needs)
+    past-requires
     (λ c κs. search needs)
     (λ c κs. search needs)
     (λ c κs. search needs)

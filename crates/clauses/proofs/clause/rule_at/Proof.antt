@@ -1,5 +1,7 @@
 -- `clause::rule_at` meets its contract. Assumes nothing.
 use native.Mathlib.Omega.{arith}
+use mathlib.Core.Bool.{false}
+use Rattle.syntax.proofs.Tokens.{past-countable}
 use Rattle.clauses.proofs.RuleLaws.{rule-ended, if-over, ready-if, if-goes}
 use borrow.Author.Needs.{needs}
 use Rattle.clauses.proofs.clause.rule_at.Statement.{statement}
@@ -21,9 +23,7 @@ with-head-requires c κs =
     record { rule = start .pre; no-if = rw (token-at .token-at .ensures) at (if2 .if2 .taken); no-end = rw (token-at .token-at .ensures) at (if1 .if1 .left) }
 
 returns-2 : tie.Need-returns-2
-returns-2 c =
-    let with-head = c .before .before .before .before .before .before in
-    with-head .with-head .ensures
+returns-2 c = c .before .before .before .before .before .before .with-head .ensures
 
 returns-3 : tie.Need-returns-3
 returns-3 c =
@@ -43,24 +43,32 @@ add-first c =
     let start = c .before .before .before .before .before .before .before .before .before .before .before in
     omega (arith, start .pre .small)
 
+past-requires : tie.Need-past-requires
+past-requires c κs =
+    let token-at = c .before .before .before .before .before in
+    let start = token-at .before .before .before .before .before .before in
+    past-countable false (start .args .program .now) (start .args .cursor .at .start) _ (token-at .token-at .ensures) (omega arith)
+
 body-at-requires : tie.Need-body-at-requires
 body-at-requires c κs =
     let onward = c .before .before .before in
-    let if3 = onward .before in
+    let past = onward .before in
+    let if3 = past .before in
     let if2 = if3 .before in
     let token-at = if2 .before .before .before .before in
     let start = token-at .before .before .before .before .before .before in
-    rw (onward .onward .ensures) (ready-if (start .args .program .now) (start .args .output .now) (start .args .names .now) (start .args .variables .now) (start .args .literals .now) (start .args .cursor) (start .args .number) (start .pre) _ (token-at .token-at .ensures) (if2 .if2 .left) (if3 .if3 .left))
+    rw (onward .onward .ensures, past .past .ensures) (ready-if (start .args .program .now) (start .args .output .now) (start .args .names .now) (start .args .variables .now) (start .args .literals .now) (start .args .cursor) (start .args .number) (start .pre) _ (token-at .token-at .ensures) (if2 .if2 .left) (if3 .if3 .left))
 
 returns-4 : tie.Need-returns-4
 returns-4 c =
     let body-at = c .before .before .before .before .before .before .before in
     let onward = body-at .before .before .before .before in
-    let if3 = onward .before in
+    let past = onward .before in
+    let if3 = past .before in
     let if2 = if3 .before in
     let token-at = if2 .before .before .before .before in
     let start = token-at .before .before .before .before .before .before in
-    if-goes (start .args .program .now) (start .args .output .now) (start .args .names .now) (start .args .variables .now) (start .args .literals .now) (start .args .cursor) (start .args .number) (start .pre) _ (token-at .token-at .ensures) (if2 .if2 .left) (if3 .if3 .left) _ _ _ _ (rw (onward .onward .ensures) at (body-at .body-at .ensures)) _ (c .bodied .ensures)
+    if-goes (start .args .program .now) (start .args .output .now) (start .args .names .now) (start .args .variables .now) (start .args .literals .now) (start .args .cursor) (start .args .number) (start .pre) _ (token-at .token-at .ensures) (if2 .if2 .left) (if3 .if3 .left) _ _ _ _ (rw (onward .onward .ensures, past .past .ensures) at (body-at .body-at .ensures)) _ (c .bodied .ensures)
 
 pub rule-at-spec : {M : Type 1} → statement M
 rule-at-spec =
@@ -78,6 +86,7 @@ rule-at-spec =
     returns-3
     mul-first
     add-first
+    past-requires
     (λ c κs. search needs)
     body-at-requires
     (λ c κs. search needs)

@@ -6,9 +6,7 @@ use Rattle.literals.proofs.builtin.compared.Statement.{statement}
 use Rattle.literals.proofs.builtin.compared.Tie as tie
 
 returns : tie.Need-returns
-returns c =
-    let if1 = c .before in
-    refused-compared _ _ _ _ _ _ _ _ _ (if1 .if1 .taken) (c .stopped .ensures)
+returns c = refused-compared _ _ _ _ _ _ _ _ _ (c .before .if1 .taken) (c .stopped .ensures)
 
 side-at-requires : tie.Need-side-at-requires
 side-at-requires c κs =
@@ -25,13 +23,4 @@ returns-2 c =
     reads-side (if1 .if1 .left) (rw (onward .onward .ensures) at (side-at .side-at .ensures))
 
 pub compared-spec : {M : Type 1} → statement M
-compared-spec =
-    tie.close
-    (tie.spec
-    (λ c κs. search needs)
-    returns
-    (λ c κs. search needs)
-    side-at-requires
-    (λ c. search needs)
-    (λ c. search needs)
-    returns-2)
+compared-spec = tie.close (tie.spec (λ c κs. search needs) returns (λ c κs. search needs) side-at-requires (λ c. search needs) (λ c. search needs) returns-2)

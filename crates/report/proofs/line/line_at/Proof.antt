@@ -4,8 +4,8 @@ use Prim.Native.Nat.{ℕ, _-_}
 use mathlib.Core.Path.{sym, ap, _∙_}
 use borrow.Author.Tests.{ltb-true, ltb-false, not-true, not-false}
 use borrow.Author.Needs.{needs}
-use Rattle.tokens.specs.Tokens.{part}
-use Rattle.tokens.specs.Places.{place-from}
+use Rattle.tokens.specs.Tokens.{bytes-in}
+use Rattle.tokens.specs.Places.{span-from}
 use Rattle.report.proofs.LineList.{end-inside, line-none}
 use Rattle.report.proofs.line.line_at.Statement.{statement}
 use Rattle.report.proofs.line.line_at.Tie as tie
@@ -25,7 +25,7 @@ returns-2 : tie.Need-returns-2
 returns-2 c =
     let text = c .before .before .before .before .before .args .text .now in
     let at = c .before .before .before .before .before .args .at in
-    ap (λ (end : ℕ). part text (place-from at (end - at))) (c .before .line-end .ensures)
+    ap (λ (end : ℕ). bytes-in text (span-from at (end - at))) (c .before .line-end .ensures)
 
 pub line-at-spec : {M : Type 1} → statement M
 line-at-spec =

@@ -8,7 +8,7 @@ use denote.Ref.{now}
 use denote.Slice.{sliceTy, shr-slice-lawful}
 use denote.Triple.Spec.{tripleOf}
 use denote.Triple.Table.{entered, cited}
-use Rattle.tokens.specs.Tokens.{part}
+use Rattle.tokens.specs.Tokens.{bytes-in}
 use Rattle.report.specs.Reader.{next as next-line}
 use Rattle.report.proofs.PassedOn.{Shape, Callee, passed-on}
 use Rattle.report.proofs.line.line_at.Symbol as line-at-def
@@ -20,7 +20,7 @@ use Rattle.report.proofs.reader.next.Statement as stated
 use Rattle.report.proofs.reader.next.Code as code
 
 abbrev shape : Shape
-shape = record { result = SliceRef 0 tt u8 tt; mir = sliceTy (tyRef (named 0) imm (tyInt w8)); callee = #report·line·line-at; Said = λ _ d r. now r ≡ part (now (d .text)) (next-line d) }
+shape = record { result = SliceRef 0 tt u8 tt; mir = sliceTy (tyRef (named 0) imm (tyInt w8)); callee = #report·line·line-at; Said = λ _ d r. now r ≡ bytes-in (now (d .text)) (next-line d) }
 
 pub next-spec : {M : Type 1} → stated.statement M
 unfolding code.routine tablesOf

@@ -1,7 +1,7 @@
 -- `word::starts_with` meets its contract. Assumes nothing.
 use mathlib.Core.Path.{ap, _∙_}
 use Rattle.meaning.specs.Values.{same-bytes}
-use Rattle.tokens.specs.Tokens.{part}
+use Rattle.tokens.specs.Tokens.{bytes-in}
 use Rattle.report.proofs.Starting.{starts-same}
 use borrow.Author.Needs.{needs}
 use Rattle.report.proofs.word.starts_with.Statement.{statement}
@@ -10,7 +10,7 @@ use Rattle.report.proofs.word.starts_with.Tie as tie
 returns : tie.Need-returns
 returns c =
     let args = c .before .before .before .before .before .args in
-    let first = c .before .part .ensures ∙ ap (part (args .line .now)) (c .before .before .place-from .ensures) in
+    let first = c .before .bytes-in .ensures ∙ ap (bytes-in (args .line .now)) (c .before .before .span-from .ensures) in
     c .same-bytes .ensures ∙ ap (λ bytes. same-bytes bytes (args .word .now)) first ∙ starts-same (args .word .now) (args .line .now)
 
 pub starts-with-spec : {M : Type 1} → statement M

@@ -1,8 +1,14 @@
 -- `term::nameless_term` meets its contract. Assumes nothing.
 use Rattle.terms.proofs.TermLaws.{in-program, number-goes, minus-goes, minus-over, ground-wrong, free-wrong}
+use native.Mathlib.Omega.{arith}
+use Rattle.tokens.proofs.PlaceTables.{storable-countable}
+use Rattle.syntax.proofs.Tokens.{past-here}
 use borrow.Author.Needs.{needs}
 use Rattle.terms.proofs.term.nameless_term.Statement.{statement}
 use Rattle.terms.proofs.term.nameless_term.Tie as tie
+
+number-term-requires : tie.Need-number-term-requires
+number-term-requires c κs = storable-countable _ (c .before .before .before .before .pre .puttable .fits)
 
 returns : tie.Need-returns
 returns c =
@@ -17,12 +23,24 @@ returns-2 c =
     let start = if2 .before .before .before .before .before .before in
     minus-over (start .args .text .now) (start .args .variables .now) (start .args .cursor) (start .pre .puttable .few) _ (start .pre .is-token) _ _ (if2 .if2 .taken) (if3 .if3 .taken) (c .stopped .ensures)
 
+past-requires : tie.Need-past-requires
+past-requires c κs =
+    let start = c .before .before .before .before .before .before .before in
+    storable-countable _ (start .pre .puttable .fits)
+
+negative-number-requires : tie.Need-negative-number-requires
+negative-number-requires c κs =
+    let if2 = c .before .before in
+    let start = if2 .before .before .before .before .before .before in
+    rw (c .past .ensures) (past-here (start .args .cursor .ground) (start .args .text .now) (start .args .cursor .at .start) _ (start .pre .is-token) (λ q. absurd (let z : ⊥ = omega (arith, if2 .if2 .taken) in z)))
+
 returns-3 : tie.Need-returns-3
 returns-3 c =
-    let if3 = c .before in
+    let past = c .before in
+    let if3 = past .before in
     let if2 = if3 .before in
     let start = if2 .before .before .before .before .before .before in
-    minus-goes (start .args .text .now) (start .args .variables .now) (start .args .cursor) (start .pre .puttable .few) _ (start .pre .is-token) _ (if2 .if2 .taken) (if3 .if3 .left) (c .negative-number .ensures)
+    minus-goes (start .args .text .now) (start .args .variables .now) (start .args .cursor) (start .pre .puttable .few) _ (start .pre .is-token) _ (if2 .if2 .taken) (if3 .if3 .left) (rw (past .past .ensures) at (c .negative-number .ensures))
 
 returns-4 : tie.Need-returns-4
 returns-4 c =
@@ -43,7 +61,7 @@ returns-5 c =
     let if5 = variable-term .before .before in
     let if4 = if5 .before .before in
     let start = if4 .before .before .before .before .before .before .before in
-    in-program (start .args .text .now) (start .args .variables .now) (start .args .cursor) (start .pre .puttable .few) _ (start .pre .is-token) _ _ (if4 .if4 .left) (λ e. variable-term .variable-term .ensures (start .args .cursor .at) e (if5 .if5 .taken))
+    in-program (start .args .text .now) (start .args .variables .now) (start .args .cursor) (start .pre .puttable .few) _ (start .pre .is-token) _ _ (if4 .if4 .left) (λ e. variable-term .variable-term .ensures (start .args .cursor .at .start) e (if5 .if5 .taken))
 
 anonymous-term-requires : tie.Need-anonymous-term-requires
 anonymous-term-requires c κs =
@@ -56,7 +74,7 @@ returns-6 c =
     let if6 = anonymous-term .before .before in
     let if4 = if6 .before .before .before .before in
     let start = if4 .before .before .before .before .before .before .before in
-    in-program (start .args .text .now) (start .args .variables .now) (start .args .cursor) (start .pre .puttable .few) _ (start .pre .is-token) _ _ (if4 .if4 .left) (λ e. anonymous-term .anonymous-term .ensures (start .args .text .now) (start .args .cursor .at) e (if6 .if6 .taken))
+    in-program (start .args .text .now) (start .args .variables .now) (start .args .cursor) (start .pre .puttable .few) _ (start .pre .is-token) _ _ (if4 .if4 .left) (λ e. anonymous-term .anonymous-term .ensures (start .args .text .now) (start .args .cursor .at .start) e (if6 .if6 .taken))
 
 returns-7 : tie.Need-returns-7
 returns-7 c =
@@ -72,11 +90,12 @@ pub nameless-term-spec : {M : Type 1} → statement M
 nameless-term-spec =
     tie.close
     (tie.spec
-    (λ c κs. search needs)
+    number-term-requires
     returns
     (λ c κs. search needs)
     returns-2
-    (λ c κs. search needs)
+    past-requires
+    negative-number-requires
     returns-3
     (λ c κs. search needs)
     returns-4

@@ -25,15 +25,19 @@ returns-2 c =
 number-code-requires : tie.Need-number-code-requires
 number-code-requires c κs = signed-range _ _ (c .before .if1 .left)
 
+past-requires : tie.Need-past-requires
+past-requires c κs = c .before .before .before .before .before .before .pre
+
 returns-3 : tie.Need-returns-3
 returns-3 c =
-    let number-code = c .before in
+    let past = c .before in
+    let number-code = past .before in
     let if2 = number-code .before in
     let if1 = if2 .before in
     let value = if1 .before in
     let part = value .before in
     let start = part .before .before in
-    c .gone .ensures ∙ sym (number-small (start .args .text .now) (start .args .token) (start .args .negative) (start .args .over) (start .args .met) _ (part .part .ensures) _ (value .value .ensures) (if1 .if1 .left) (if2 .if2 .left) _ (number-code .number-code .ensures))
+    (rw (past .past .ensures) at (c .gone .ensures)) ∙ sym (number-small (start .args .text .now) (start .args .token) (start .args .negative) (start .args .over) (start .args .met) _ (part .part .ensures) _ (value .value .ensures) (if1 .if1 .left) (if2 .if2 .left) _ (number-code .number-code .ensures))
 
 pub number-term-spec : {M : Type 1} → statement M
 number-term-spec =
@@ -46,5 +50,6 @@ number-term-spec =
     (λ c κs. search needs)
     returns-2
     number-code-requires
+    past-requires
     (λ c κs. search needs)
     returns-3)

@@ -7,37 +7,26 @@ use Rattle.terms.proofs.term.term_at.Tie as tie
 name-term-requires : tie.Need-name-term-requires
 name-term-requires c κs =
     let if1 = c .before in
-    let token-at = if1 .before .before in
-    let start = token-at .before .before .before .before .before .before in
-    record { variables = start .args .variables .now; ready = start .pre; is-token = token-at .token-at .ensures; is-name = if1 .if1 .taken }
+    let start = if1 .before .before .before .before .before .before .before in
+    record { variables = start .args .variables .now; ready = start .pre; is-name = if1 .if1 .taken }
 
 returns : tie.Need-returns
 returns c =
     let name-term = c .before .before in
-    let start = name-term .before .before .before .before .before .before .before .before .before .before in
-    name-term .name-term .ensures (start .args .variables .now) (start .pre)
+    let start = name-term .before .before .before .before .before .before .before .before .before in
+    name-term .name-term .ensures (start .args .variables .now) (start .pre .ready)
 
 nameless-term-requires : tie.Need-nameless-term-requires
 nameless-term-requires c κs =
     let if1 = c .before in
-    let token-at = if1 .before .before in
-    let start = token-at .before .before .before .before .before .before in
-    record { puttable = puttable (start .args .program .now) (start .args .output .now) (start .args .text .now) (start .args .names .now) (start .args .variables .now) (start .args .cursor) (start .pre) _ (token-at .token-at .ensures); is-token = token-at .token-at .ensures; no-name = if1 .if1 .left }
+    let start = if1 .before .before .before .before .before .before .before in
+    record { puttable = puttable (start .args .program .now) (start .args .output .now) (start .args .text .now) (start .args .names .now) (start .args .variables .now) (start .args .cursor) (start .pre .ready) _ (start .pre .is-token); is-token = start .pre .is-token; no-name = if1 .if1 .left }
 
 returns-2 : tie.Need-returns-2
 returns-2 c =
     let nameless-term = c .before .before in
-    let start = nameless-term .before .before .before .before .before .before .before .before .before .before in
-    nameless (start .args .program .now) (start .args .output .now) (start .args .text .now) (start .args .names .now) (start .args .variables .now) (start .args .cursor) (start .pre) _ _ (nameless-term .nameless-term .ensures)
+    let start = nameless-term .before .before .before .before .before .before .before .before .before in
+    nameless (start .args .program .now) (start .args .output .now) (start .args .text .now) (start .args .names .now) (start .args .variables .now) (start .args .cursor) (start .pre .ready) _ _ (nameless-term .nameless-term .ensures)
 
 pub term-at-spec : {M : Type 1} → statement M
-term-at-spec =
-    tie.close
-    (tie.spec
-    (λ c κs. search needs)
-    name-term-requires
-    (λ c. search needs)
-    returns
-    nameless-term-requires
-    (λ c. search needs)
-    returns-2)
+term-at-spec = tie.close (tie.spec name-term-requires (λ c. search needs) returns nameless-term-requires (λ c. search needs) returns-2)

@@ -12,24 +12,19 @@ returns : tie.Need-returns
 returns c = c .is-blank .ensures ∙ ap (λ (r : Run). goesOn r (c .before .before .before .args .byte)) (sym (c .before .enum-told .given .1))
 
 returns-2 : tie.Need-returns-2
-returns-2 c = c .is-blank2 .ensures ∙ ap (λ (r : Run). goesOn r (c .before .before .before .args .byte)) (sym (c .before .enum-told2 .given .1))
+unfolding inLine
+returns-2 c = ap (λ (r : Run). goesOn r (c .before .before .args .byte)) (sym (c .enum-told2 .given .1))
 
 returns-3 : tie.Need-returns-3
-unfolding inLine
-returns-3 c = ap (λ (r : Run). goesOn r (c .before .before .args .byte)) (sym (c .enum-told3 .given .1))
+returns-3 c = c .is-word .ensures ∙ ap isWord (c .before .class-of .ensures) ∙ ap (λ (r : Run). goesOn r (c .before .before .before .before .args .byte)) (sym (c .before .before .enum-told3 .given .1))
 
 returns-4 : tie.Need-returns-4
-returns-4 c = c .is-word .ensures ∙ ap isWord (c .before .class-of .ensures) ∙ ap (λ (r : Run). goesOn r (c .before .before .before .before .args .byte)) (sym (c .before .before .enum-told4 .given .1))
-
-returns-5 : tie.Need-returns-5
-returns-5 c = c .is-digit .ensures ∙ ap isDigit (c .before .class-of2 .ensures) ∙ ap (λ (r : Run). goesOn r (c .before .before .before .before .args .byte)) (sym (c .before .before .enum-told5 .given .1))
+returns-4 c = c .is-digit .ensures ∙ ap isDigit (c .before .class-of2 .ensures) ∙ ap (λ (r : Run). goesOn r (c .before .before .before .before .args .byte)) (sym (c .before .before .enum-told4 .given .1))
 
 pub goes-on-spec : {M : Type 1} → statement M
 goes-on-spec =
     tie.close
     (tie.spec
-    (λ c. search needs)
-    (λ c κs. search needs)
     (λ c. search needs)
     (λ c κs. search needs)
     (λ c. search needs)
@@ -42,5 +37,4 @@ goes-on-spec =
     returns
     returns-2
     returns-3
-    returns-4
-    returns-5)
+    returns-4)
