@@ -10,8 +10,10 @@ use crate::compare::honest;
 use crate::frames::Case;
 use crate::generate::candidates::spelled;
 use crate::generate::solve::{ground, Grounded};
-use crate::generate::{numbers, shapes, traces};
-use crate::meaning::matchings::{Candidate, Matching};
+use crate::generate::strings::bytes_of;
+use crate::generate::{kinds, numbers, shapes, traces};
+use crate::lexer::{tokens, Kind, Language};
+use crate::meaning::matchings::Candidate;
 use crate::plain::plain_form;
 use crate::random::Random;
 use crate::rules::{Fact, Operation, Rule, Side, Term, Value};
@@ -24,7 +26,7 @@ const MOST_POSSIBLE: usize = 40;
 const SAMPLES: usize = 40;
 
 /// A candidate as a set of facts' texts.
-type Set = Vec<String>;
+type Set = Vec<Vec<u8>>;
 
 /// A case, and whether clingo has its candidate among the answer sets.
 struct Judged {
@@ -60,13 +62,18 @@ pub fn run(path: &str, command: &[String], seed: u64, count: u64) -> io::Result<
 /// A program whose meaning is the same to clingo, and what it can derive.
 fn shared_program(random: &mut Random) -> (Vec<u8>, Grounded) {
     loop {
-        let text = match random.below(10) {
+        let rules = match random.below(12) {
             0..=3 => traces::transfers(random),
-            4..=6 => shapes::negation(random),
-            7 => numbers::arithmetic(random),
-            _ => shapes::mixed(random),
+            4 => shapes::negation(random),
+            5 => numbers::arithmetic(random),
+            6 | 7 => shapes::mixed(random),
+            _ => kinds::comparisons(random),
         };
-        let Ok(rules) = read_program(text.concat().as_bytes()) else { continue };
+        let mut text = bytes_of(&rules.concat());
+        if random.chance(60) {
+            text = kinds::renamed(random, &text);
+        }
+        let Ok(rules) = read_program(&text) else { continue };
         let grounded = ground(&rules);
         let small = grounded.complete && grounded.possible.len() <= MOST_POSSIBLE;
         if small && means_the_same(&rules, &grounded.possible) {
@@ -75,19 +82,20 @@ fn shared_program(random: &mut Random) -> (Vec<u8>, Grounded) {
     }
 }
 
-/// Whether no operation is one that clingo simplifies, no number is compared with a name, and none leaves the range.
+/// Whether no operation is one that clingo simplifies, none leaves the range, and no string is another one to clingo.
 fn means_the_same(rules: &[Rule], possible: &[Fact]) -> bool {
     let candidate = Candidate::new(possible);
     rules.iter().all(|rule| {
-        let other = |matching: &Matching| matching.leaves_range(rule) || compares_kinds(rule, matching);
-        !rule.built_in().any(|test| is_simplified(&test.right))
-            && !candidate.each_matching(rule, &mut |matching| other(matching))
+        !rule.values().into_iter().any(is_other_string)
+            && !rule.built_in().any(|test| is_simplified(&test.right))
+            && !candidate.each_matching(rule, &mut |matching| matching.leaves_range(rule))
     })
 }
 
-fn compares_kinds(rule: &Rule, matching: &Matching) -> bool {
-    let differ = |(left, right): (Value, Value)| matches!(left, Value::Number(_)) != matches!(right, Value::Number(_));
-    rule.built_in().any(|test| matching.compared(test).is_some_and(differ))
+/// Whether a value is a string with an escape, for clingo compares what it stands for, or with a NUL, where clingo's
+/// strings end.
+fn is_other_string(value: &Value) -> bool {
+    matches!(value, Value::String(between) if between.contains(&b'\\') || between.contains(&0))
 }
 
 /// Whether an operation has 0 or 1 as an operand that leaves the other one as it is, or leaves nothing of it.
@@ -107,16 +115,29 @@ fn answer_sets(path: &str, program: &[u8]) -> io::Result<HashSet<Set>> {
     let words = [path, "--outf=0", "--verbose=0", "--warn=none", "--out-atomf=%s.", "0", "-"];
     let command: Vec<String> = words.iter().map(|word| word.to_string()).collect();
     let written = batch::run(&command, program.to_vec())?;
-    let text = String::from_utf8_lossy(&written);
-    let mut lines: Vec<&str> = text.lines().collect();
+    let mut lines: Vec<&[u8]> = written.strip_suffix(b"\n").unwrap_or(&written).split(|byte| *byte == b'\n').collect();
     match lines.pop() {
-        Some("SATISFIABLE") | Some("UNSATISFIABLE") => (),
-        _ => return Err(io::Error::new(io::ErrorKind::InvalidData, format!("clingo said: {text}"))),
+        Some(b"SATISFIABLE") | Some(b"UNSATISFIABLE") => (),
+        _ => {
+            let said = format!("clingo said: {}", String::from_utf8_lossy(&written));
+            return Err(io::Error::new(io::ErrorKind::InvalidData, said));
+        }
     }
-    Ok(lines.iter().map(|line| sorted(&line.split_whitespace().map(str::to_string).collect::<Set>())).collect())
+    Ok(lines.iter().map(|line| sorted(&facts_on(line))).collect())
 }
 
-fn sorted(set: &[String]) -> Set {
+/// The facts on a line: each from behind the last one's dot to its own, without blanks around it.
+fn facts_on(line: &[u8]) -> Set {
+    let mut from = 0;
+    let mut facts = Vec::new();
+    for dot in tokens(line, Language::Facts).iter().filter(|token| token.kind == Kind::Dot) {
+        facts.push(line[from..dot.end].trim_ascii_start().to_vec());
+        from = dot.end;
+    }
+    facts
+}
+
+fn sorted(set: &[Vec<u8>]) -> Set {
     let mut facts = set.to_vec();
     facts.sort();
     facts
@@ -143,7 +164,7 @@ fn candidates(random: &mut Random, grounded: &Grounded, found: &HashSet<Set>) ->
 }
 
 /// A set without a fact that it has, or with one that it has not.
-fn with_one_changed(set: &[String], fact: &String) -> Set {
+fn with_one_changed(set: &[Vec<u8>], fact: &Vec<u8>) -> Set {
     let mut other: Set = set.iter().filter(|old| *old != fact).cloned().collect();
     if other.len() == set.len() {
         other.push(fact.clone());
@@ -151,9 +172,9 @@ fn with_one_changed(set: &[String], fact: &String) -> Set {
     other
 }
 
-fn case(program: &[u8], set: &[String]) -> Case {
-    let output = format!("ANSWER\n{}\n", set.join(" "));
-    Case::Check { code: 10, places: set.len(), program: program.to_vec(), output: output.into_bytes() }
+fn case(program: &[u8], set: &[Vec<u8>]) -> Case {
+    let output = [b"ANSWER\n", set.join(&b' ').as_slice(), b"\n"].concat();
+    Case::Check { code: 10, places: set.len(), program: program.to_vec(), output }
 }
 
 /// Prints how many answers are not what clingo's answer sets say, and the first of them.

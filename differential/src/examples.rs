@@ -71,7 +71,8 @@ const POINTS: &[Checked] = &[
     ("p:-_=5,X=_.", "UNKNOWN", 1, "REFUSED 5 program 7 1 1 8 kept"),
     ("p(Z):-Z=Y+1,Y=X,X=1.", "ANSWER\np(2).", 10, "ACCEPTED program 0 0 1 1 atoms 1 rounds 1 each 1 kept"),
     ("a.b:-a,a.", "ANSWER\na.", 10, "UNSATISFIED program 0 0 1 1 rule 2 body 1 1 kept"),
-    ("q(a).:-q(X),X!=1.", "ANSWER\nq(a).", 10, "ACCEPTED program 0 0 1 1 atoms 1 rounds 1 each 1 kept"),
+    ("q(a).:-q(X),X!=1.", "ANSWER\nq(a).", 10, "UNSATISFIED program 0 0 1 1 rule 2 body 1 kept"),
+    ("q(a).:-q(X),X=1.", "ANSWER\nq(a).", 10, "ACCEPTED program 0 0 1 1 atoms 1 rounds 1 each 1 kept"),
     ("q(1).p:-q(Y),not q(X),X=Y+1.", "ANSWER\nq(1).", 10, "UNSATISFIED program 0 0 1 1 rule 2 body 1 kept"),
     ("q(a).p:-q(Y),not q(X),X=Y+1.", "ANSWER\nq(a).", 10, "ACCEPTED program 0 0 1 1 atoms 1 rounds 1 each 1 kept"),
     ("p:-1=2,3=1000000000*2. %", "ANSWER\n\n", 10, "REFUSED 8 program 0 22 1 1 kept"),
@@ -102,7 +103,29 @@ const PLACES: &[Checked] = &[
     ("\na.\n", "\n%\nANSWER\na.", 30, "REFUSED 10 output 0 0 1 1 kept"),
 ];
 
+/// Strings, and the order over values of all kinds.
+const STRINGS: &[Checked] = &[
+    ("p(7).a:-p(S),S!=north.", "ANSWER\np(7). a.", 10, "ACCEPTED program 0 0 1 1 atoms 2 rounds 2 each 1 2 kept"),
+    ("p(7).a:-p(S),S!=north.", "ANSWER\np(7).", 10, "UNSATISFIED program 0 0 1 1 rule 2 body 1 kept"),
+    ("a:-7<north,north<\"\",7<\"7\".", "ANSWER\na.", 10, "ACCEPTED program 0 0 1 1 atoms 1 rounds 1 each 1 kept"),
+    ("q(1).a:-q(X),north!=X+1.", "ANSWER\nq(1).", 10, "UNSATISFIED program 0 0 1 1 rule 2 body 1 kept"),
+    ("q(\"1\").:-q(X),X!=X+1.", "ANSWER\nq(\"1\").", 10, "ACCEPTED program 0 0 1 1 atoms 1 rounds 1 each 1 kept"),
+    (":-\"a\"<\"a b\".", "ANSWER\n\n", 10, "UNSATISFIED program 0 0 1 1 rule 1 body kept"),
+    (":-\"aAb\">=\"a\\\"b\".", "ANSWER\n\n", 10, "ACCEPTED program 0 0 1 1 atoms 0 rounds 0 each kept"),
+    ("p(a).", "ANSWER\np(\"a\"). p(a).", 10, "SMALLER program 0 0 1 1 atoms 2 kept"),
+    ("", "ANSWER\np(\"% a\\\"\"). p( \"% a\\\"\" ).", 10, "REFUSED 6 output 19 13 2 13 kept"),
+    ("p(\"%*\n\").", "UNKNOWN", 1, "REFUSED 2 program 2 1 1 3 kept"),
+    ("p(\"a\\n\").", "UNKNOWN", 1, "REFUSED 2 program 2 1 1 3 kept"),
+    ("a.\np(\"a", "UNKNOWN", 1, "REFUSED 2 program 5 1 2 3 kept"),
+    ("", "ANSWER\np(\"\n\").", 10, "REFUSED 2 output 9 1 2 3 kept"),
+    ("\"a\".", "UNKNOWN", 1, "REFUSED 2 program 0 3 1 1 kept"),
+    ("a:-not \"a\".", "UNKNOWN", 1, "REFUSED 2 program 7 3 1 8 kept"),
+    ("p(-\"a\").", "UNKNOWN", 1, "REFUSED 2 program 3 3 1 4 kept"),
+    ("p(1,2,3,4,5,6,7,8,\"a\").", "UNKNOWN", 1, "REFUSED 4 program 18 3 1 19 kept"),
+];
+
 const FORMS: &[Written] = &[
+    ("p( \" %\" ):-\"\\\"\"  <>  \"\" .", 19, "WRITTEN program 0 0 1 1 length 18 kept\np(\" %\"):-\"\\\"\"!=\"\".\n"),
     ("", 0, "WRITTEN program 0 0 1 1 length 0 kept\n\n"),
     ("a :- not\n b, X <> - 0, q( X ) . % c", 20, "WRITTEN program 0 0 1 1 length 19 kept\na:-not b,X!=0,q(X).\n"),
     ("p():- not - q , X=1--0,X=-0-0.", 23, "WRITTEN program 0 0 1 1 length 21 kept\np:-not-q,X=1-0,X=0-0.\n"),
@@ -122,6 +145,7 @@ pub fn all() -> Vec<(Case, Vec<u8>)> {
     let points = POINTS
         .iter()
         .chain(PLACES)
+        .chain(STRINGS)
         .map(|(program, output, code, line)| (check(program, output, *code), format!("{line}\n").into_bytes()));
     let forms = FORMS.iter().map(|(program, room, answer)| {
         let program = program.as_bytes().to_vec();

@@ -2,11 +2,13 @@
 
 pub mod candidates;
 mod damage;
+pub mod kinds;
 pub mod numbers;
 mod outputs;
 pub mod shapes;
 mod sizes;
 pub mod solve;
+pub mod strings;
 mod style;
 pub mod traces;
 
@@ -43,15 +45,15 @@ struct Faults {
 
 fn draw(random: &mut Random) -> Case {
     match random.below(100) {
-        0..=57 => check_case(random, Faults::default()),
-        58..=66 => check_case(random, Faults { program: true, ..Faults::default() }),
-        67..=72 => check_case(random, Faults { facts: true, ..Faults::default() }),
-        73..=78 => check_case(random, Faults { around: true, ..Faults::default() }),
-        79..=83 => {
+        0..=55 => check_case(random, Faults::default()),
+        56..=64 => check_case(random, Faults { program: true, ..Faults::default() }),
+        65..=70 => check_case(random, Faults { facts: true, ..Faults::default() }),
+        71..=76 => check_case(random, Faults { around: true, ..Faults::default() }),
+        77..=81 => {
             let faults = some_faults(random);
             check_case(random, faults)
         }
-        84..=88 => sized_case(random),
+        82..=88 => sized_case(random),
         _ => plain_case(random),
     }
 }
@@ -83,10 +85,11 @@ fn work(program: &[u8], output: &[u8]) -> usize {
 /// A program's text by a random theme.
 fn program(random: &mut Random) -> Vec<u8> {
     let mut rules = match random.below(100) {
-        0..=34 => traces::transfers(random),
-        35..=49 => shapes::negation(random),
-        50..=71 => numbers::arithmetic(random),
-        72..=87 => shapes::mixed(random),
+        0..=29 => traces::transfers(random),
+        30..=42 => shapes::negation(random),
+        43..=61 => numbers::arithmetic(random),
+        62..=74 => shapes::mixed(random),
+        75..=87 => kinds::comparisons(random),
         88..=91 => numbers::equations(random),
         92..=95 => shapes::wide(random),
         96 | 97 => traces::names(random),
@@ -95,7 +98,11 @@ fn program(random: &mut Random) -> Vec<u8> {
     if random.chance(6) {
         rules.extend(shapes::negation(random));
     }
-    style::styled(random, &rules.concat())
+    let mut text = strings::bytes_of(&rules.concat());
+    if random.chance(30) {
+        text = kinds::renamed(random, &text);
+    }
+    style::styled(random, &text)
 }
 
 /// A program and its rules; one that is not read is seldom kept.
@@ -138,7 +145,7 @@ fn places(random: &mut Random, facts: usize) -> usize {
 fn check_case(random: &mut Random, faults: Faults) -> Case {
     let (mut program, rules) = read_rules(random);
     let facts = candidate(random, &rules, faults);
-    let spelled: Vec<String> = facts.iter().map(candidates::spelled).collect();
+    let spelled: Vec<Vec<u8>> = facts.iter().map(candidates::spelled).collect();
     let mut line = style::facts_line(random, &spelled);
     if faults.program {
         program = damage::damaged_program(random, &program);
@@ -189,8 +196,5 @@ fn plain_case(random: &mut Random) -> Case {
 
 fn style_of_program(random: &mut Random) -> Vec<u8> {
     let text = program(random);
-    match String::from_utf8(text) {
-        Ok(text) => style::restyled(random, &text),
-        Err(other) => other.into_bytes(),
-    }
+    style::restyled(random, &text)
 }

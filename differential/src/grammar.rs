@@ -2,13 +2,14 @@
 
 use crate::answer::{Part, Refusal, Text, NOT_GRAMMAR, NUMBER_TOO_BIG, TOO_MANY};
 use crate::lexer::{token_from, Kind, Language, Token};
-use crate::rules::{Atom, BuiltIn, Fact, Literal, Name, Operation, Rule, Side, Term, Value, Variable, MOST};
+use crate::rules::{Atom, BuiltIn, Fact, Literal, Name, Operation, Quoted, Rule, Side, Term, Value, Variable, MOST};
 use crate::wrong::{self, Wrong};
 
 const MOST_RULES: usize = 256;
 const MOST_LITERALS: usize = 16;
 const MOST_ARGUMENTS: usize = 8;
 const MOST_WORD_BYTES: usize = 64;
+const MOST_STRING_BYTES: usize = 64;
 const MOST_VARIABLES: usize = 16;
 const MOST_FACTS: usize = 1024;
 
@@ -77,11 +78,12 @@ impl<'a> Reader<'a> {
 
     /// The refusal of a token that the grammar can't have here.
     fn unexpected(&self) -> Refusal {
-        let long = matches!(self.token.kind, Kind::Name | Kind::Variable) && self.spelling().len() > MOST_WORD_BYTES;
-        if long && wrong::is(Wrong::SizeBeforeGrammar) {
-            return self.refuse(TOO_MANY);
-        }
-        self.refuse(NOT_GRAMMAR)
+        let wrongly = match self.token.kind {
+            Kind::Name | Kind::Variable => wrong::is(Wrong::SizeBeforeGrammar) && self.word_size().is_err(),
+            Kind::String => wrong::is(Wrong::StringSizeFirst) && self.string_size().is_err(),
+            _ => false,
+        };
+        self.refuse(if wrongly { TOO_MANY } else { NOT_GRAMMAR })
     }
 
     fn take(&mut self, kind: Kind) -> Read<()> {
@@ -108,7 +110,7 @@ impl<'a> Reader<'a> {
     fn all<T>(mut self, begin: &[Kind], most: usize, one: fn(&mut Self) -> Read<T>) -> Read<Vec<T>> {
         let mut found = Vec::new();
         while !self.sees(Kind::End) {
-            if !begin.contains(&self.token.kind) {
+            if !begin.contains(&self.token.kind) && !self.sees_string_as_name() {
                 return Err(self.unexpected());
             }
             self.limit(found.len(), most)?;
@@ -168,7 +170,8 @@ impl<'a> Reader<'a> {
             }
             Kind::Minus => self.literal_behind_minus(),
             Kind::Name => self.literal_from_name(),
-            Kind::Number | Kind::Variable | Kind::Anonymous => {
+            Kind::String if wrong::is(Wrong::StringOnRightOnly) => Err(self.unexpected()),
+            Kind::Number | Kind::Variable | Kind::Anonymous | Kind::String => {
                 let left = self.term()?;
                 self.built_in(left)
             }
@@ -265,6 +268,7 @@ impl<'a> Reader<'a> {
     fn starts_term(&self) -> bool {
         match self.token.kind {
             Kind::Minus | Kind::Number | Kind::Name => true,
+            Kind::String => self.language == Language::Program || !wrong::is(Wrong::StringInRulesOnly),
             Kind::Variable | Kind::Anonymous => self.language == Language::Program,
             _ => false,
         }
@@ -284,12 +288,13 @@ impl<'a> Reader<'a> {
             }
             Kind::Number => Ok(Term::Value(Value::Number(self.number(false)?))),
             Kind::Name => Ok(Term::Value(Value::Name(self.name()?))),
+            Kind::String => Ok(Term::Value(Value::String(self.string()?))),
             _ => self.variable(),
         }
     }
 
     fn name(&mut self) -> Read<Name> {
-        if !self.sees(Kind::Name) {
+        if !self.sees(Kind::Name) && !self.sees_string_as_name() {
             return Err(self.unexpected());
         }
         self.word_size()?;
@@ -301,6 +306,42 @@ impl<'a> Reader<'a> {
     fn word_size(&self) -> Read<()> {
         let most = MOST_WORD_BYTES + usize::from(wrong::is(Wrong::NameOf65));
         if self.spelling().len() > most {
+            return Err(self.refuse(TOO_MANY));
+        }
+        Ok(())
+    }
+
+    fn sees_string_as_name(&self) -> bool {
+        self.sees(Kind::String) && wrong::is(Wrong::StringAsPredicate)
+    }
+
+    /// A string's bytes between its quotes, as written.
+    fn string(&mut self) -> Read<Quoted> {
+        let size = self.string_size();
+        if wrong::is(Wrong::LongWithoutQuotes) && size.is_err() {
+            self.token = Token { start: self.token.start + 1, end: self.token.end - 1, ..self.token };
+            return Err(self.refuse(TOO_MANY));
+        }
+        size?;
+        let string = Quoted::from(self.between_quotes());
+        self.advance();
+        Ok(string)
+    }
+
+    fn between_quotes(&self) -> &'a [u8] {
+        &self.text[self.token.start + 1..self.token.end - 1]
+    }
+
+    fn string_size(&self) -> Read<()> {
+        let most = match () {
+            () if wrong::is(Wrong::StringOf65) => MOST_STRING_BYTES + 1,
+            () if wrong::is(Wrong::StringOf63) => MOST_STRING_BYTES - 1,
+            () if wrong::is(Wrong::QuotesCounted) => MOST_STRING_BYTES - 2,
+            () => MOST_STRING_BYTES,
+        };
+        let uncounted = |byte: &&u8| **byte == b'\\' && wrong::is(Wrong::EscapeOneByte);
+        let bytes = self.between_quotes();
+        if bytes.len() - bytes.iter().filter(uncounted).count() > most {
             return Err(self.refuse(TOO_MANY));
         }
         Ok(())
@@ -377,8 +418,8 @@ fn ground(atom: Atom) -> Fact {
 }
 
 fn starts_literal(kind: Kind) -> bool {
-    use Kind::{Anonymous, Minus, Name, Not, Number, Variable};
-    matches!(kind, Not | Minus | Name | Number | Variable | Anonymous)
+    use Kind::{Anonymous, Minus, Name, Not, Number, String, Variable};
+    matches!(kind, Not | Minus | Name | Number | Variable | Anonymous | String)
 }
 
 fn operation(kind: Kind) -> Option<Operation> {

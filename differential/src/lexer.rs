@@ -11,6 +11,8 @@ pub enum Kind {
     Number,
     Variable,
     Anonymous,
+    /// A string with its quotes.
+    String,
     Open,
     Close,
     Comma,
@@ -129,6 +131,7 @@ fn token_starting(text: &[u8], start: usize, first: u8) -> Token {
         b'_' => token(Kind::Anonymous, start, 1),
         b'0' if !wrong::is(Wrong::LeadingZeros) => token(Kind::Number, start, 1),
         b'0'..=b'9' => token(Kind::Number, start, run(text, start, |b| b.is_ascii_digit())),
+        b'"' => string(text, start),
         _ => mark(text, start),
     }
 }
@@ -153,6 +156,42 @@ fn word(text: &[u8], start: usize) -> Token {
         return token(Kind::Not, start, 3);
     }
     token(Kind::Name, start, length)
+}
+
+/// A string from its quote to the one that closes it; a quote that opens no string is a byte where no token starts.
+fn string(text: &[u8], start: usize) -> Token {
+    match closing_quote(text, start + 1) {
+        Ok(close) => token(Kind::String, start, close + 1 - start),
+        Err(fault) if wrong::is(Wrong::UnclosedWhole) => token(Kind::Stray, start, fault - start),
+        Err(fault) if wrong::is(Wrong::UnclosedLong) && fault - start > 66 => token(Kind::String, start, fault - start),
+        Err(_) => token(Kind::Stray, start, 1),
+    }
+}
+
+/// The first quote from a place on that is not part of `\"`, or else the place of what may not stand before it: a
+/// newline, a backslash with no quote behind it, the end.
+fn closing_quote(text: &[u8], from: usize) -> Result<usize, usize> {
+    let mut at = from;
+    while let Some(byte) = text.get(at) {
+        match byte {
+            b'"' => return Ok(at),
+            b'\\' if text.get(at + 1) == Some(&b'"') => at += 2,
+            _ if stands_in_string(*byte) => at += 1,
+            _ => return Err(at),
+        }
+    }
+    Err(text.len())
+}
+
+/// Whether a byte that is no quote and stands before none may be one of a string.
+fn stands_in_string(byte: u8) -> bool {
+    match byte {
+        b'\n' => wrong::is(Wrong::StringOverLines),
+        b'\\' => wrong::is(Wrong::LoneBackslash),
+        b'%' => !wrong::is(Wrong::CommentInString),
+        b' '..=b'~' => true,
+        _ => !wrong::is(Wrong::StringOfPrintable),
+    }
 }
 
 /// A mark, or a byte where no token starts.

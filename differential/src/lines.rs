@@ -1,6 +1,7 @@
 //! Lines and columns: where a part of a text starts. Both count from 1, and every byte is one column.
 
 use crate::answer::{Part, Text};
+use crate::lexer::{self, Language};
 use crate::output;
 use crate::wrong::{self, Wrong};
 
@@ -71,10 +72,13 @@ fn ends_line(bytes: &[u8], at: usize, text: Text) -> bool {
     }
 }
 
-/// Whether the newline at a place of a program ends a comment: where reading has come past it, a `%` before it on its
-/// line starts one.
+/// Whether the newline at a place of a program ends a comment: where reading has come past it, a `%` behind the last
+/// token of its line starts one.
 fn ends_comment(program: &[u8], at: usize) -> bool {
-    program[..at].iter().rev().take_while(|byte| **byte != b'\n').any(|byte| *byte == b'%')
+    let start = program[..at].iter().rposition(|byte| *byte == b'\n').map_or(0, |newline| newline + 1);
+    let line = &program[start..at];
+    let behind = lexer::tokens(line, Language::Program).last().map_or(0, |token| token.end);
+    line[behind..].contains(&b'%')
 }
 
 /// How many columns a byte has: one, whatever it is.

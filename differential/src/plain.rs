@@ -89,8 +89,20 @@ impl Writer {
         match term {
             Term::Variable(number) => self.token(&rule.variables[*number].spelling),
             Term::Value(Value::Name(name)) => self.token(name),
+            Term::Value(Value::String(string)) => self.string(string),
             Term::Value(Value::Number(number)) => self.number(*number),
         }
+    }
+
+    fn string(&mut self, string: &[u8]) {
+        if wrong::is(Wrong::BlankBeforeString) {
+            self.bytes.push(b' ');
+        }
+        let mut between = string.to_vec();
+        if wrong::is(Wrong::WritesNoEscapes) {
+            between.retain(|byte| *byte != b'\\');
+        }
+        self.token(&[b"\"", between.as_slice(), b"\""].concat());
     }
 
     fn number(&mut self, number: i64) {

@@ -1,6 +1,7 @@
 //! Values, facts, atoms, literals and rules, as trees.
 
 use std::cmp::Ordering;
+use std::hash::{Hash, Hasher};
 use std::rc::Rc;
 
 use crate::wrong::{self, Wrong};
@@ -8,11 +9,15 @@ use crate::wrong::{self, Wrong};
 /// A name's bytes.
 pub type Name = Rc<[u8]>;
 
-/// A member of the universe: a whole number or a name.
-#[derive(Clone, Debug, PartialEq, Eq, Hash)]
+/// A string's bytes between its quotes, as written.
+pub type Quoted = Rc<[u8]>;
+
+/// A member of the universe: a whole number, a name or a string.
+#[derive(Clone, Debug)]
 pub enum Value {
     Number(i64),
     Name(Name),
+    String(Quoted),
 }
 
 /// A plain term; a variable is its number within the rule, each `_` having its own.
@@ -207,10 +212,13 @@ impl Relation {
         }
     }
 
-    /// Whether two values stand in this relation: between a number and a name none holds.
+    /// Whether two values stand in this relation.
     pub fn holds(self, left: &Value, right: &Value) -> bool {
-        compare(left, right)
-            .map_or_else(|| self == Relation::Unequal && wrong::is(Wrong::KindsUnequal), |order| self.allows(order))
+        let wrongly = wrong::is(Wrong::KindsApart) || (wrong::is(Wrong::KindsEqual) && self == Relation::Unequal);
+        if wrongly && left.kind() != right.kind() {
+            return false;
+        }
+        self.allows(left.cmp(right))
     }
 
     fn allows(self, order: Ordering) -> bool {
@@ -225,18 +233,90 @@ impl Relation {
     }
 }
 
-/// Numbers by size, names by bytes with a prefix first, and no order between the two kinds.
-fn compare(left: &Value, right: &Value) -> Option<Ordering> {
-    match (left, right) {
-        (Value::Number(a), Value::Number(b)) => Some(a.cmp(b)),
-        (Value::Name(a), Value::Name(b)) if wrong::is(Wrong::ShorterNameFirst) => {
-            Some(a.len().cmp(&b.len()).then(a.cmp(b)))
+impl Ord for Value {
+    /// The order over all values, and which are equal: numbers by size, then names and then strings, both by bytes
+    /// with a prefix first.
+    fn cmp(&self, other: &Value) -> Ordering {
+        match (self, other) {
+            (Value::Number(a), Value::Number(b)) => a.cmp(b),
+            (Value::Name(a), Value::Name(b)) if wrong::is(Wrong::ShorterNameFirst) => {
+                a.len().cmp(&b.len()).then(a.cmp(b))
+            }
+            (Value::Name(a), Value::Name(b)) => a.cmp(b),
+            (Value::String(a), Value::String(b)) => compare_strings(a, b),
+            (Value::Name(a), Value::String(b)) | (Value::String(a), Value::Name(b))
+                if a == b && wrong::is(Wrong::NameIsString) =>
+            {
+                Ordering::Equal
+            }
+            _ => self.kind().cmp(&other.kind()),
         }
-        (Value::Name(a), Value::Name(b)) => Some(a.cmp(b)),
-        _ if wrong::is(Wrong::KindsOrdered) => match left {
-            Value::Number(_) => Some(Ordering::Less),
-            Value::Name(_) => Some(Ordering::Greater),
-        },
-        _ => None,
     }
+}
+
+impl PartialOrd for Value {
+    fn partial_cmp(&self, other: &Value) -> Option<Ordering> {
+        Some(self.cmp(other))
+    }
+}
+
+impl PartialEq for Value {
+    fn eq(&self, other: &Value) -> bool {
+        self.cmp(other) == Ordering::Equal
+    }
+}
+
+impl Eq for Value {}
+
+impl Hash for Value {
+    fn hash<H: Hasher>(&self, state: &mut H) {
+        match self {
+            Value::Number(number) => number.hash(state),
+            Value::Name(bytes) | Value::String(bytes) => bytes.hash(state),
+        }
+    }
+}
+
+impl Value {
+    /// Where the value's kind stands in the order.
+    fn kind(&self) -> usize {
+        let (number, name, string) = match () {
+            () if wrong::is(Wrong::NumbersAboveNames) => (2, 1, 3),
+            () if wrong::is(Wrong::StringsBelowNames) => (1, 3, 2),
+            () if wrong::is(Wrong::StringsBelowNumbers) => (2, 3, 1),
+            () => (1, 2, 3),
+        };
+        match self {
+            Value::Number(_) => number,
+            Value::Name(_) => name,
+            Value::String(_) => string,
+        }
+    }
+}
+
+/// Strings by their bytes as written, a prefix first.
+fn compare_strings(left: &[u8], right: &[u8]) -> Ordering {
+    let prefix = left.starts_with(right) || right.starts_with(left);
+    if prefix && wrong::is(Wrong::PrefixBehind) {
+        return right.len().cmp(&left.len());
+    }
+    if wrong::is(Wrong::SignedBytes) {
+        return left.iter().map(|byte| *byte as i8).cmp(right.iter().map(|byte| *byte as i8));
+    }
+    compared(left).cmp(&compared(right))
+}
+
+/// The bytes of a string that are compared: those between the quotes, as written.
+fn compared(string: &[u8]) -> Vec<u8> {
+    let mut bytes = string.to_vec();
+    if wrong::is(Wrong::QuoteCompared) {
+        bytes.push(b'"');
+    }
+    if wrong::is(Wrong::EscapesRead) {
+        bytes.retain(|byte| *byte != b'\\');
+    }
+    if wrong::is(Wrong::StringToNul) {
+        bytes.truncate(string.iter().position(|byte| *byte == 0).unwrap_or(string.len()));
+    }
+    bytes
 }

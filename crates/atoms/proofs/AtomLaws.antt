@@ -26,17 +26,17 @@ use Rattle.rows.specs.Coding.{Codes}
 use Rattle.rows.proofs.Growth.{grows-none, grows-interned, grows-then}
 use Rattle.rows.proofs.Atoms.{atom-coded}
 use Rattle.terms.specs.declared.cursor.Cursor.{Cursor}
-use Rattle.terms.specs.Cursors.{ReadyCursor, met-before}
+use Rattle.terms.specs.Cursors.{ReadyCursor, met-before, ReadyToken}
 use Rattle.terms.proofs.Readiness.{behind-token, met-fits, ready-on, codes-wider}
 use Rattle.atoms.specs.declared.arguments.ArgumentsRead.{ArgumentsRead}
 use Rattle.atoms.specs.declared.atom.AtomRead.{AtomRead}
 use Rattle.atoms.specs.declared.atom.SignedName.{SignedName}
 use Rattle.atoms.specs.Arguments.{ReadsArguments}
-use Rattle.atoms.specs.Atoms.{ReadyAtom, NameStands, ReadsNamed, ReadsMinus, ReadsAtom, stoppedAtom, goneAtom}
+use Rattle.atoms.specs.Atoms.{NameStands, ReadsNamed, ReadsMinus, ReadsAtom, stoppedAtom, goneAtom}
 
--- the caller has looked at the token: a head begins there
-pub ready-head : (program output text : Bytes) (names variables : List ℕ) (k : Cursor) → ReadyCursor program output text names variables k → (ground : Bool) → k .ground ≡ ground → (t : TokenRead) → t ≡ tokenRead ground text (k .at .start) → (t .kind ≡ 9 → ⊥) → (t .kind ≡ 20 → ⊥) → ReadyAtom program output text names variables k t
-ready-head program output text names variables k ready ground eg t et n e = record { ready = record { ready = ready; is-token = et ∙ ap (λ (g : Bool). tokenRead g text (k .at .start)) (inv eg) }; begun = λ h. (n, e) }
+-- the token where a head is wanted
+pub ready-head : (program output text : Bytes) (names variables : List ℕ) (k : Cursor) → ReadyCursor program output text names variables k → (ground : Bool) → k .ground ≡ ground → (t : TokenRead) → t ≡ tokenRead ground text (k .at .start) → ReadyToken program output text names variables k t
+ready-head program output text names variables k ready ground eg t et = record { ready = ready; is-token = et ∙ ap (λ (g : Bool). tokenRead g text (k .at .start)) (inv eg) }
 
 arguments-few : (program output text : Bytes) (names variables : List ℕ) (k : Cursor) (w : ArgumentsRead) (names′ variables′ : List ℕ) → ReadsArguments program output text names variables k w names′ variables′ → w .progress .code ≡ 0 → w .count ≤ 8
 arguments-few program output text names variables k w names′ variables′ (read c b n o f x s m q) e = s .coded .few

@@ -1,10 +1,8 @@
 -- Classical atoms as numbers: what the functions that read them promise.
-use mathlib.Core.Path.{_≡_}
-use mathlib.Core.Bool.{true, false, _||_}
+use mathlib.Core.Bool.{false}
 use mathlib.Core.List.{List, [], _∷_}
 use Prim.Native.Nat.{ℕ, _-_, _<_}
 use Rattle.tokens.specs.declared.place.Place.{Place}
-use Rattle.syntax.specs.declared.token.TokenRead.{TokenRead}
 use Rattle.tokens.specs.Places.{places-in}
 use Rattle.meaning.specs.Rules.{Bytes, Term, Atom}
 use Rattle.meaning.specs.Values.{Value}
@@ -14,16 +12,10 @@ use Rattle.syntax.specs.Fills.{going, halted, Fills}
 use Rattle.syntax.specs.Atoms.{named-in, minus-in, atom-in}
 use Rattle.rows.specs.Coding.{CodedAtom, Codes}
 use Rattle.terms.specs.declared.cursor.Cursor.{Cursor}
-use Rattle.terms.specs.Cursors.{ReadyCursor, met-before, ReadyToken}
+use Rattle.terms.specs.Cursors.{ReadyCursor, met-before}
 use Rattle.atoms.specs.declared.atom.AtomRead.{AtomRead}
 use Rattle.atoms.specs.declared.atom.SignedName.{SignedName}
 use Rattle.atoms.specs.Arguments.{no-codes}
-
--- what is asked where an atom is wanted: what a term asks; and a head, of a fact or of a rule that is one too many, begins neither with `:-`
--- nor at the end: there the grammar wants none. Only behind `not` anything may stand
-pub record ReadyAtom (program output text : Bytes) (names variables : List ℕ) (k : Cursor) (t : TokenRead) : Type 0 where
-  pub ready : ReadyToken program output text names variables k t
-  pub begun : (k .ground || k .over) ≡ true → (t .kind ≡ 9 → ⊥) × (t .kind ≡ 20 → ⊥)
 
 -- the numbers stand for the atom, beside the table of names afterwards; what has been read began at a place
 abbrev pub AtomStands : Bytes → Bytes → List ℕ → ℕ → AtomRead → List ℕ → Atom (Term Value) → Type 0

@@ -1,7 +1,7 @@
 // A classical atom, read as its predicate's number and its terms': perhaps a minus, a name, perhaps arguments.
 ghost use mathlib.Core.Path.{_≡_};
-ghost use Rattle.terms.specs.Cursors.{ReadyCursor};
-ghost use Rattle.atoms.specs.Atoms.{stoppedAtom, goneAtom, ReadyAtom, ReadyNamed, ReadsNamed, ReadsMinus, ReadsAtom};
+ghost use Rattle.terms.specs.Cursors.{ReadyCursor, ReadyToken};
+ghost use Rattle.atoms.specs.Atoms.{stoppedAtom, goneAtom, ReadyNamed, ReadsNamed, ReadsMinus, ReadsAtom};
 use crate::arguments::arguments_at;
 use codes::predicate;
 use rows::literal::AtomCodes;
@@ -128,7 +128,7 @@ pub fn atom_at<'a>(
     cursor: Cursor,
     token: TokenRead,
 ) -> AtomRead
-    requires { ⌜ ReadyAtom (now program) (now output) (now text) (now names) (now variables) cursor token ⌝ }
+    requires { ⌜ ReadyToken (now program) (now output) (now text) (now names) (now variables) cursor token ⌝ }
     ensures { λ r. ⌜ ReadsAtom (now (program .entry)) (now (output .entry)) (now (text .entry)) (now (names .entry)) (now (variables .entry)) cursor r (now (names .exit)) (now (variables .exit)) ⌝ }
 {
     let behind = onward(cursor, past(token.place), false, cursor.met);

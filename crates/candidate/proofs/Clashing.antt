@@ -116,7 +116,7 @@ module _ (names : List Bytes) (table : Distinct names) (facts : List ℕ) (count
   -- where none clashes, no two facts are the same
   earlier-clash : ((i n : ℕ) → ¬ Clash I i n) → (i j : ℕ) → i < j → j < count → fact-at facts i ≡ fact-at facts j → ⊥
   unfolding alike turned
-  earlier-clash clear i j l k e = clear j 6 (twin-repeats j (to-values false j k (i, l, rw e (same-fact-test (codes names) (code-laws names table) .self (fact-at facts j)))))
+  earlier-clash clear i j l k e = clear j 6 (twin-repeats j (to-values false j k (i, l, rw e (same-fact-test (codes names) (code-laws names) .self (fact-at facts j)))))
 
   pub facts-apart : ((i n : ℕ) → ¬ Clash I i n) → Apart facts count
   facts-apart clear i j l k e =

@@ -1,16 +1,15 @@
 -- What tables that stand for a program and a candidate give: facts apart, and the answer of the last stages.
-use mathlib.Core.Path.{_≡_, sym, _∙_}
+use mathlib.Core.Path.{_≡_, sym}
 use mathlib.Core.List.{List}
 use Prim.Native.Nat.{ℕ, zero, suc, _-_, _≤_, _<_}
 use native.Mathlib.Omega.{arith}
-use lib.ListN.{length, take, drop, length-take}
+use lib.ListN.{length, drop, length-take}
 use Rattle.meaning.specs.Rules.{Bytes, Fact, Rule}
 use Rattle.meaning.specs.Values.{Value, values, in-range}
 use Rattle.meaning.specs.Outcomes as meant
 use Rattle.codes.proofs.Pairwise.{same-length}
 use Rattle.codes.proofs.Outcomes.{coded-answers}
-use Rattle.names.proofs.Firsts.{length-first}
-use Rattle.names.specs.Table.{count, name-at, names-of, Table}
+use Rattle.names.specs.Table.{names-of}
 use Rattle.tables.specs.Rows.{fact-at, facts-of, rule-at, rules-of}
 use Rattle.tables.specs.WellFormed.{RuleRow, RuleTable}
 use Rattle.tables.proofs.Strides.{from-length}
@@ -90,17 +89,13 @@ module _ (program output : Bytes) (names store : List ℕ) (n : Counts) (places 
         apart = facts-apart (names-of program output names) (s .stands .held .rules-held .name-table .distinct) (facts-in store) (n .facts) (s .candidate) (s .stands .held .facts-stand) (s .unclashing);
       }
 
-  pub names-long : (name-table : Table program output names) → (count names ≤ 131_072) × (count names ≤ length names) × (length (names-of program output names) ≡ count names)
-  names-long t = (omega (arith, t .room), omega (arith, t .room, t .size), length-first (name-at program output names) (count names))
+-- ---- the ranks
 
-  -- ranks where they have the order of the names
-  pub comparing-ranked : (ranks : List ℕ) → Ranked (names-of program output names) ranks → Comparing (names-of program output names) ranks store (n .rules)
-  comparing-ranked ranks r = record { distinct = s .stands .held .rules-held .name-table .distinct; each = r .each; ranked = λ _ _ _ _ _. r }
+module _ (texts : List Bytes) (ranks store : List ℕ) (total : ℕ) where
+  -- they have the order of the texts
+  pub comparing-ranked : Ranked texts ranks → Comparing texts ranks store total
+  comparing-ranked r = record { ranked = λ _ _ _ _ _. r }
 
   -- any numbers where no rule asks for an order
-  pub comparing-plain : (ranks : List ℕ) → length ranks ≡ count names → PlainRule store (n .rules) → Comparing (names-of program output names) ranks store (n .rules)
-  comparing-plain ranks e p = record { distinct = s .stands .held .rules-held .name-table .distinct; each = e ∙ sym (names-long (s .stands .held .rules-held .name-table) .2); ranked = λ r l h b more. absurd (omega (arith, p .each r l h b)) }
-
-  -- as many numbers as names, cut from the table of names
-  pub names-cut : length (take (count names - 0) (drop 0 names)) ≡ count names
-  names-cut = omega (arith, length-take (count names - 0) names, names-long (s .stands .held .rules-held .name-table) .1)
+  pub comparing-plain : PlainRule store total → Comparing texts ranks store total
+  comparing-plain p = record { ranked = λ r l h b more. absurd (omega (arith, p .each r l h b)) }

@@ -16,7 +16,7 @@ pub struct Counts {
     pub rules: usize,
 }
 
-// The answer that the judgement gives, with a rank for each name.
+// The answer that the judgement gives, with these ranks.
 fn judged(
     program: &[u8],
     store: &[u64],
@@ -31,7 +31,7 @@ fn judged(
     verdict(program, judgement, counts.facts)
 }
 
-// .. with the names' ranks worked out in a table.
+// .. with the ranks of names and strings worked out in a table.
 fn ranked<'a>(
     program: &'a [u8],
     output: &'a [u8],
@@ -52,8 +52,8 @@ fn rank_table() -> [u32; MOST_NAMES] {
     [0; MOST_NAMES]
 }
 
-// The answer where the facts are distinct and consistent and there is room. Names need ranks only where a rule asks which of two comes first;
-// else any numbers will do, one for each name.
+// The answer where the facts are distinct and consistent and there is room. Ranks are worked out only where a rule asks which of two comes
+// first; else any numbers will do.
 pub fn settled<'a>(
     program: &'a [u8],
     output: &'a [u8],
@@ -65,8 +65,8 @@ pub fn settled<'a>(
     requires { ⌜ Settling (now program) (now output) (now names) (now store) counts (now places) ⌝ }
     ensures { λ a. ⌜ AnswersSettled (now (program .entry)) (now (output .entry)) (now (names .entry)) (now (store .entry)) counts (now (places .entry)) a (now (places .exit)) ⌝ }
 {
-    let size = names[0] as usize;
     if any_orders(store, counts.rules) {
+        let size = names[0] as usize;
         let mut table = rank_table();
         return ranked(
             program,
@@ -78,5 +78,5 @@ pub fn settled<'a>(
             places,
         );
     }
-    judged(program, store, &names[0..size], counts, places)
+    judged(program, store, names, counts, places)
 }

@@ -8,7 +8,7 @@ use Rattle.reading.specs.Reading.{tokens}
 use Rattle.reading.specs.Machine.{Step, run}
 use Rattle.reading.proofs.Lists.{none-some}
 use Rattle.meaning.specs.Rules.{Bytes}
-use Rattle.grammar.specs.Tokens.{Symbol, underscore, not, minus, opening, closing, comma, dot, :-, plus, times, Token, name, variable, number, comparison, symbol, stray}
+use Rattle.grammar.specs.Tokens.{Symbol, underscore, not, minus, opening, closing, comma, dot, :-, plus, times, Token, name, variable, string, number, comparison, symbol, stray}
 use Rattle.grammar.specs.Trees.{empty, Term, bare, Atom, atom, Literal, positive, negated, compared, computed, Program}
 use Rattle.grammar.specs.Spelling.{Mark, spell}
 use Rattle.grammar.specs.Writing.{is-word-symbol, is-word, is-comparison, run-together, Apart}
@@ -37,6 +37,7 @@ symbol-last times = no-word
 token-last : Token → Last
 token-last (name b) = a-word
 token-last (variable b) = a-word
+token-last (string b) = a-word
 token-last (number n) = a-word
 token-last (comparison r) = no-word
 token-last (symbol s) = symbol-last s
@@ -68,6 +69,7 @@ apart : (p t : Token) → May (token-last p) t → (run-together p t ≡ false) 
 unfolding token-last symbol-last run-together is-word is-word-symbol is-comparison
 apart (name b) t h = inl (rw h)
 apart (variable b) t h = inl (rw h)
+apart (string b) t h = inl refl
 apart (number n) t h = inl (rw h)
 apart (comparison r) t h = inl (rw h)
 apart (symbol underscore) t h = inl (rw h)
@@ -119,12 +121,12 @@ module _ {ground : Bool} where
 
   keeps-wanted : (h : TermContext ground) → OnMoves (Keeps no-word) (a-term h)
   unfolding OnMoves OnMove a-term state-last token-last symbol-last is-comparison
-  keeps-wanted h = ((λ b. (refl, refl)), ((λ n. (refl, refl)), ((refl, refl), on-free (Keeps no-word) ground _ (λ u. ((λ b. (refl, refl)), ((refl, refl), tt))))))
+  keeps-wanted h = ((λ b. (refl, refl)), ((λ b. (refl, refl)), ((λ n. (refl, refl)), ((refl, refl), on-free (Keeps no-word) ground _ (λ u. ((λ b. (refl, refl)), ((refl, refl), tt)))))))
 
   keeps-else : (a : AtomContext ground) → OnMoves (Keeps (atom-last a)) (else-wanted a)
   unfolding OnMoves OnMove else-wanted state-last atom-last token-last symbol-last is-comparison
   keeps-else (head-behind p) = on-free (Keeps no-word) ground _ (λ u. ((refl, refl), tt))
-  keeps-else (literal-in c) = ((λ b. (refl, refl)), ((λ n. (refl, refl)), ((refl, refl), ((refl, refl), tt))))
+  keeps-else (literal-in c) = ((λ b. (refl, refl)), ((λ b. (refl, refl)), ((λ n. (refl, refl)), ((refl, refl), ((refl, refl), tt)))))
   keeps-else (not-in c) = tt
 
   keeps-name : (a : AtomContext ground) (b : Bytes) → May (atom-last a) (name b)

@@ -11,7 +11,7 @@ use Rattle.reading.proofs.Traces.{Leads, leads-append}
 use Rattle.meaning.specs.Domain.{Operation}
 use Rattle.meaning.specs.Rules.{Bytes}
 use Rattle.grammar.specs.Tokens.{Sign, Symbol, not, opening, closing, comma, dot, :-, Token, comparison, symbol}
-use Rattle.grammar.specs.Trees.{Free, Sequence, empty, _then_, count, Term, name, variable, number, negative, anonymous, Arguments, bare, parentheses, arguments, Atom, atom, Literal, positive, negated, compared, computed, Rule, fact, clause, Program}
+use Rattle.grammar.specs.Trees.{Free, Sequence, empty, _then_, count, Term, name, variable, string, number, negative, anonymous, Arguments, bare, parentheses, arguments, Atom, atom, Literal, positive, negated, compared, computed, Rule, fact, clause, Program}
 use Rattle.grammar.specs.Spelling.{Mark, inside, Spelling, mere, with-commas, spell-term, spell-argument, spell-arguments, spell-signed, spell-atom, spell-operation, spell-compared, spell-literal, spell-nth-literal, spell-head, spell-rule, spell}
 use Rattle.grammar.specs.Moves.{when, fire, either, try, symbol-number}
 use Rattle.grammar.specs.States.{BodyContext, AtomContext, head-behind, literal-in, not-in, TermContext, argument-in, right-in, operand-in, State, atom-wanted, named, opened, closed, term-wanted, term-read}
@@ -44,6 +44,7 @@ module _ {ground : Bool} where
   unfolding run step moves try fire either when symbol-number tokens a-term spell-term
   term-leads (name b) h m = record { via = λ r. refl }
   term-leads (variable u b) h m = one (term-wanted h) _ _ (free-try ground _ u _)
+  term-leads (string b) h m = record { via = λ r. refl }
   term-leads (number n) h m = record { via = λ r. refl }
   term-leads (negative n) h m = record { via = λ r. refl }
   term-leads (anonymous u) h m = one (term-wanted h) _ _ (free-try ground _ u _)
@@ -53,6 +54,7 @@ module _ {ground : Bool} where
   unfolding run step moves try fire either when symbol-number tokens a-term spell-term
   first-term (name b′) a s b m r = refl
   first-term (variable u b′) a s b m r = refl
+  first-term (string b′) a s b m r = refl
   first-term (number n) a s b m r = refl
   first-term (negative n) a s b m r = refl
   first-term (anonymous u) a s b m r = refl
@@ -132,6 +134,7 @@ module _ {ground : Bool} where
   unfolding run step moves try fire either when symbol-number tokens after-term else-wanted else-minus else-named spell-term
   left-leads (name b) c m q = record { via = λ r. refl }
   left-leads (variable u b) c m q = rw (free-same ground u (c .free)) (record { via = λ r. refl })
+  left-leads (string b) c m q = record { via = λ r. refl }
   left-leads (number n) c m q = record { via = λ r. refl }
   left-leads (negative n) c m q = record { via = λ r. refl }
   left-leads (anonymous u) c m q = rw (free-same ground u (c .free)) (record { via = λ r. refl })

@@ -6,7 +6,7 @@ use mathlib.Core.List.{List, [], _∷_, map}
 use Rattle.reading.specs.Reading.{_▹_}
 use Rattle.meaning.specs.Values.{Value}
 use Rattle.meaning.specs.Rules.{constant, Fact, Rule as MeantRule}
-use Rattle.grammar.specs.Trees.{Sequence, empty, _then_, Term, name, variable, number, negative, anonymous, bare, parentheses, arguments, atom, Rule, fact, clause, Program}
+use Rattle.grammar.specs.Trees.{Sequence, empty, _then_, Term, name, variable, string, number, negative, anonymous, bare, parentheses, arguments, atom, Rule, fact, clause, Program}
 use Rattle.grammar.specs.Variables.{Variables}
 use Rattle.grammar.specs.Abstraction.{term-for, terms-for, arguments-for, atom-for, rule-for, rules-for, value-for, values-for, argument-values-for, fact-for, facts-for}
 
@@ -18,6 +18,7 @@ ground-term : (vs : Variables) (t : Term true) → term-for vs t ≡ constant (v
 unfolding term-for value-for
 ground-term vs (name b) = refl
 ground-term vs (variable u b) = absurd u
+ground-term vs (string b) = refl
 ground-term vs (number n) = refl
 ground-term vs (negative n) = refl
 ground-term vs (anonymous u) = absurd u

@@ -11,10 +11,10 @@ use borrow.Author.Tests.{eqb-true}
 use Rattle.reading.specs.Machine.{Step}
 use Rattle.reading.proofs.Lists.{none-some, some-inj}
 use Rattle.meaning.specs.Rules.{Bytes}
-use Rattle.grammar.specs.Tokens.{Sign, Symbol, underscore, not, minus, opening, closing, comma, dot, :-, plus, times, Token, name, variable, number, comparison, symbol, stray}
+use Rattle.grammar.specs.Tokens.{Sign, Symbol, underscore, not, minus, opening, closing, comma, dot, :-, plus, times, Token, name, variable, string, number, comparison, symbol, stray}
 use Rattle.grammar.specs.Trees.{Free}
 use Rattle.grammar.specs.Spelling.{Mark, inside}
-use Rattle.grammar.specs.Moves.{Move, on-name, on-variable, on-number, on-comparison, on, free-moves, symbol-number, when, fire, either, try}
+use Rattle.grammar.specs.Moves.{Move, on-name, on-variable, on-string, on-number, on-comparison, on, free-moves, symbol-number, when, fire, either, try}
 
 -- ---- a symbol's number is its own
 
@@ -57,6 +57,7 @@ free-denied false f e = let z : _≡_ {A = ℕ} 0 1 = cc in absurd (omega arith)
 unfoldable pub OnMove : {S : Type 0} → (Token → Step S Mark → Type 0) → Move S → Type 0
 OnMove P (on-name m k) = (b : Bytes) → P (name b) (record { mark = m; state = k b })
 OnMove P (on-variable m k) = (b : Bytes) → P (variable b) (record { mark = m; state = k b })
+OnMove P (on-string m k) = (b : Bytes) → P (string b) (record { mark = m; state = k b })
 OnMove P (on-number m k) = (n : ℕ) → P (number n) (record { mark = m; state = k n })
 OnMove P (on-comparison k) = (r : Sign) → P (comparison r) (record { mark = inside; state = k r })
 OnMove P (on m s x) = P (symbol s) (record { mark = m; state = x })
@@ -79,30 +80,42 @@ fire-all : {S : Type 0} (P : Token → Step S Mark → Type 0) (m : Move S) (t :
 unfolding OnMove fire when
 fire-all P (on-name m k) (name b) x g h = rw (← (some-inj h)) (g b)
 fire-all P (on-name m k) (variable b) x g h = absurd (none-some h)
+fire-all P (on-name m k) (string b) x g h = absurd (none-some h)
 fire-all P (on-name m k) (number n) x g h = absurd (none-some h)
 fire-all P (on-name m k) (comparison r) x g h = absurd (none-some h)
 fire-all P (on-name m k) (symbol s) x g h = absurd (none-some h)
 fire-all P (on-name m k) (stray b) x g h = absurd (none-some h)
 fire-all P (on-variable m k) (name b) x g h = absurd (none-some h)
 fire-all P (on-variable m k) (variable b) x g h = rw (← (some-inj h)) (g b)
+fire-all P (on-variable m k) (string b) x g h = absurd (none-some h)
 fire-all P (on-variable m k) (number n) x g h = absurd (none-some h)
 fire-all P (on-variable m k) (comparison r) x g h = absurd (none-some h)
 fire-all P (on-variable m k) (symbol s) x g h = absurd (none-some h)
 fire-all P (on-variable m k) (stray b) x g h = absurd (none-some h)
+fire-all P (on-string m k) (name b) x g h = absurd (none-some h)
+fire-all P (on-string m k) (variable b) x g h = absurd (none-some h)
+fire-all P (on-string m k) (string b) x g h = rw (← (some-inj h)) (g b)
+fire-all P (on-string m k) (number n) x g h = absurd (none-some h)
+fire-all P (on-string m k) (comparison r) x g h = absurd (none-some h)
+fire-all P (on-string m k) (symbol s) x g h = absurd (none-some h)
+fire-all P (on-string m k) (stray b) x g h = absurd (none-some h)
 fire-all P (on-number m k) (name b) x g h = absurd (none-some h)
 fire-all P (on-number m k) (variable b) x g h = absurd (none-some h)
+fire-all P (on-number m k) (string b) x g h = absurd (none-some h)
 fire-all P (on-number m k) (number n) x g h = rw (← (some-inj h)) (g n)
 fire-all P (on-number m k) (comparison r) x g h = absurd (none-some h)
 fire-all P (on-number m k) (symbol s) x g h = absurd (none-some h)
 fire-all P (on-number m k) (stray b) x g h = absurd (none-some h)
 fire-all P (on-comparison k) (name b) x g h = absurd (none-some h)
 fire-all P (on-comparison k) (variable b) x g h = absurd (none-some h)
+fire-all P (on-comparison k) (string b) x g h = absurd (none-some h)
 fire-all P (on-comparison k) (number n) x g h = absurd (none-some h)
 fire-all P (on-comparison k) (comparison r) x g h = rw (← (some-inj h)) (g r)
 fire-all P (on-comparison k) (symbol s) x g h = absurd (none-some h)
 fire-all P (on-comparison k) (stray b) x g h = absurd (none-some h)
 fire-all P (on m z y) (name b) x g h = absurd (none-some h)
 fire-all P (on m z y) (variable b) x g h = absurd (none-some h)
+fire-all P (on m z y) (string b) x g h = absurd (none-some h)
 fire-all P (on m z y) (number n) x g h = absurd (none-some h)
 fire-all P (on m z y) (comparison r) x g h = absurd (none-some h)
 fire-all P (on m z y) (stray b) x g h = absurd (none-some h)

@@ -12,15 +12,16 @@ use borrow.Author.Tests.{ne-eqb, eqb-false, le-leb, lt-leb}
 use Rattle.reading.specs.Machine.{Step}
 use Rattle.meaning.specs.Domain.{Comparison, equal, unequal, less, at-most, greater, at-least}
 use Rattle.meaning.specs.Rules.{Bytes}
-use Rattle.grammar.specs.Tokens.{Sign, sign, <>, Symbol, underscore, not, minus, opening, closing, comma, dot, :-, plus, times, Token, name, variable, number, comparison, symbol, stray}
+use Rattle.grammar.specs.Tokens.{Sign, sign, <>, Symbol, underscore, not, minus, opening, closing, comma, dot, :-, plus, times, Token, name, variable, string, number, comparison, symbol, stray}
 use Rattle.grammar.specs.Spelling.{Mark, inside}
-use Rattle.grammar.specs.Moves.{Move, on-name, on-variable, on-number, on-comparison, on, symbol-number, comparison-number, sign-number, token-number, when, fire, either, try}
+use Rattle.grammar.specs.Moves.{Move, on-name, on-variable, on-string, on-number, on-comparison, on, symbol-number, comparison-number, sign-number, token-number, when, fire, either, try}
 
 -- ---- what a token holds
 
 unfoldable pub bytes-of : Token → Bytes
 bytes-of (name b) = b
 bytes-of (variable b) = b
+bytes-of (string b) = b
 bytes-of (number n) = []
 bytes-of (comparison r) = []
 bytes-of (symbol s) = []
@@ -29,6 +30,7 @@ bytes-of (stray b) = []
 unfoldable pub value-of : Token → ℕ
 value-of (name b) = 0
 value-of (variable b) = 0
+value-of (string b) = 0
 value-of (number n) = n
 value-of (comparison r) = 0
 value-of (symbol s) = 0
@@ -37,6 +39,7 @@ value-of (stray b) = 0
 unfoldable pub sign-of : Token → Sign
 sign-of (name b) = <>
 sign-of (variable b) = <>
+sign-of (string b) = <>
 sign-of (number n) = <>
 sign-of (comparison r) = r
 sign-of (symbol s) = <>
@@ -86,6 +89,7 @@ signs <> = record { low = omega arith; high = omega arith }
 unfoldable pub fire-number : {S : Type 0} → Move S → ℕ → Token → Option (Step S Mark)
 fire-number (on-name m k) n t = when (eqb n 0) (record { mark = m; state = k (bytes-of t) })
 fire-number (on-variable m k) n t = when (eqb n 2) (record { mark = m; state = k (bytes-of t) })
+fire-number (on-string m k) n t = when (eqb n 22) (record { mark = m; state = k (bytes-of t) })
 fire-number (on-number m k) n t = when (eqb n 4) (record { mark = m; state = k (value-of t) })
 fire-number (on-comparison k) n t = when (leb 13 n && leb n 19) (record { mark = inside; state = k (sign-of t) })
 fire-number (on m s x) n t = when (eqb n (symbol-number s)) (record { mark = m; state = x })
@@ -101,30 +105,42 @@ pub fire-by-number : {S : Type 0} (m : Move S) (t : Token) → fire m t ≡ fire
 unfolding fire fire-number token-number when bytes-of value-of sign-of
 fire-by-number (on-name m k) (name b) = refl
 fire-by-number (on-name m k) (variable b) = refl
+fire-by-number (on-name m k) (string b) = refl
 fire-by-number (on-name m k) (number n) = refl
 fire-by-number (on-name m k) (comparison r) = rw (ne-eqb (sign-number r) 0 (λ e. omega (arith, signs r .low)))
 fire-by-number (on-name m k) (symbol s) = rw (symbols s .no-name)
 fire-by-number (on-name m k) (stray b) = refl
 fire-by-number (on-variable m k) (name b) = refl
 fire-by-number (on-variable m k) (variable b) = refl
+fire-by-number (on-variable m k) (string b) = refl
 fire-by-number (on-variable m k) (number n) = refl
 fire-by-number (on-variable m k) (comparison r) = rw (ne-eqb (sign-number r) 2 (λ e. omega (arith, signs r .low)))
 fire-by-number (on-variable m k) (symbol s) = rw (symbols s .no-variable)
 fire-by-number (on-variable m k) (stray b) = refl
+fire-by-number (on-string m k) (name b) = refl
+fire-by-number (on-string m k) (variable b) = refl
+fire-by-number (on-string m k) (string b) = refl
+fire-by-number (on-string m k) (number n) = refl
+fire-by-number (on-string m k) (comparison r) = rw (ne-eqb (sign-number r) 22 (λ e. omega (arith, signs r .high)))
+fire-by-number (on-string m k) (symbol s) = rw (ne-eqb (symbol-number s) 22 (λ e. omega (arith, symbols s .low)))
+fire-by-number (on-string m k) (stray b) = refl
 fire-by-number (on-number m k) (name b) = refl
 fire-by-number (on-number m k) (variable b) = refl
+fire-by-number (on-number m k) (string b) = refl
 fire-by-number (on-number m k) (number n) = refl
 fire-by-number (on-number m k) (comparison r) = rw (ne-eqb (sign-number r) 4 (λ e. omega (arith, signs r .low)))
 fire-by-number (on-number m k) (symbol s) = rw (symbols s .no-number)
 fire-by-number (on-number m k) (stray b) = refl
 fire-by-number (on-comparison k) (name b) = refl
 fire-by-number (on-comparison k) (variable b) = refl
+fire-by-number (on-comparison k) (string b) = refl
 fire-by-number (on-comparison k) (number n) = refl
 fire-by-number (on-comparison k) (comparison r) = rw (le-leb 13 (sign-number r) (signs r .low), le-leb (sign-number r) 19 (signs r .high))
 fire-by-number (on-comparison k) (symbol s) = rw (lt-leb 13 (symbol-number s) (omega (arith, symbols s .low)))
 fire-by-number (on-comparison k) (stray b) = refl
 fire-by-number (on m z x) (name b) = rw (unlike (symbol-number z) 0 (symbols z .no-name))
 fire-by-number (on m z x) (variable b) = rw (unlike (symbol-number z) 2 (symbols z .no-variable))
+fire-by-number (on m z x) (string b) = rw (ne-eqb 22 (symbol-number z) (λ e. omega (arith, symbols z .low)))
 fire-by-number (on m z x) (number n) = rw (unlike (symbol-number z) 4 (symbols z .no-number))
 fire-by-number (on m z x) (comparison r) = rw (ne-eqb (sign-number r) (symbol-number z) (λ e. omega (arith, signs r .low, symbols z .low)))
 fire-by-number (on m z x) (symbol s) = refl
@@ -162,15 +178,26 @@ rebuilt-here : (t : Token) → token-number t ≤ 19 → t ≡ rebuilt (token-nu
 unfolding token-number rebuilt bytes-of value-of sign-of
 rebuilt-here (name b) h = refl
 rebuilt-here (variable b) h = refl
+rebuilt-here (string b) h = absurd (omega arith)
 rebuilt-here (number n) h = refl
 rebuilt-here (comparison r) h = inv (List·getD-eq-default (made-up (comparison r)) (comparison r) (signs r .low))
 rebuilt-here (symbol s) h = rebuilt-symbol s
 rebuilt-here (stray b) h = absurd (omega arith)
 
--- which token it is, where its number is known; a stray byte has the number 21
+-- which token it is, where its number is known; a stray byte has the number 21, and a string 22
 pub token-by-number : (t : Token) (k : ℕ) → token-number t ≡ k → k ≤ 19 → t ≡ rebuilt k t
 token-by-number t k e h = rw e at (rebuilt-here t (rw e h))
 
 pub comparison-by-number : (t : Token) (k : ℕ) → token-number t ≡ k → 13 ≤ k → k ≤ 19 → t ≡ comparison (sign-of t)
 unfolding rebuilt
 comparison-by-number t k e l h = token-by-number t k e h ∙ List·getD-eq-default (made-up t) (comparison (sign-of t)) l
+
+pub string-by-number : (t : Token) → token-number t ≡ 22 → t ≡ string (bytes-of t)
+unfolding token-number bytes-of
+string-by-number (name b) e = absurd (omega arith)
+string-by-number (variable b) e = absurd (omega arith)
+string-by-number (string b) e = refl
+string-by-number (number n) e = absurd (omega arith)
+string-by-number (comparison r) e = absurd (omega (arith, signs r .high))
+string-by-number (symbol s) e = absurd (omega (arith, symbols s .low))
+string-by-number (stray b) e = absurd (omega arith)

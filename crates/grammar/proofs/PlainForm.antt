@@ -5,7 +5,7 @@ use mathlib.Core.Option.{Option, none, some}
 use mathlib.Core.List.{[]}
 use Prim.Native.Nat.{zero, suc}
 use Rattle.grammar.specs.Tokens.{Sign, sign, <>}
-use Rattle.grammar.specs.Trees.{Sequence, empty, _then_, Term, name, variable, number, negative, anonymous, bare, parentheses, arguments, Atom, atom, Literal, positive, negated, compared, computed, Rule, fact, clause, Program}
+use Rattle.grammar.specs.Trees.{Sequence, empty, _then_, Term, name, variable, string, number, negative, anonymous, bare, parentheses, arguments, Atom, atom, Literal, positive, negated, compared, computed, Rule, fact, clause, Program}
 use Rattle.grammar.specs.Spelling.{inside, spell-argument, spell-nth-literal}
 use Rattle.grammar.specs.Variables.{Variables}
 use Rattle.grammar.specs.Abstraction.{term-for, terms-for, arguments-for, atom-for, comparison-for, literal-for, literals-for, rule-for, rules-for}
@@ -24,6 +24,7 @@ module _ {ground : Bool} where
   unfolding plain-term term-for
   same-term vs (name b) = refl
   same-term vs (variable u b) = refl
+  same-term vs (string b) = refl
   same-term vs (number n) = refl
   same-term vs (negative zero) = refl
   same-term vs (negative (suc n)) = refl
@@ -81,6 +82,7 @@ module _ {ground : Bool} where
   unfolding plain-term
   again-term (name b) = refl
   again-term (variable u b) = refl
+  again-term (string b) = refl
   again-term (number n) = refl
   again-term (negative zero) = refl
   again-term (negative (suc n)) = refl

@@ -8,7 +8,7 @@ use native.Mathlib.Nat.{le-refl}
 use lib.ListN.{length}
 use Rattle.reading.specs.Reading.{Placed, tokens, unplaced, Within, tree, Reading, read}
 use Rattle.meaning.specs.Rules.{Bytes}
-use Rattle.grammar.specs.Tokens.{underscore, not, minus, opening, closing, comma, dot, :-, plus, times, Token, name, variable, number, comparison, symbol, stray, sign}
+use Rattle.grammar.specs.Tokens.{underscore, not, minus, opening, closing, comma, dot, :-, plus, times, Token, name, variable, string, number, comparison, symbol, stray, sign}
 use Rattle.meaning.specs.Domain.{unequal}
 use Rattle.grammar.specs.Trees.{Program}
 use Rattle.grammar.specs.Spelling.{spell}
@@ -35,6 +35,7 @@ last-gap : (t : Token) → gap t [] ≡ []
 unfolding gap
 last-gap (name b) = refl
 last-gap (variable b) = refl
+last-gap (string b) = refl
 last-gap (number n) = refl
 last-gap (comparison r) = refl
 last-gap (symbol s) = behind-last (is-not s)
@@ -45,6 +46,7 @@ no-gap : (t u : Token) (us : List Token) → run-together t u ≡ false → gap 
 unfolding gap behind-not is-not run-together is-word is-word-symbol is-comparison
 no-gap (name b) u us h = refl
 no-gap (variable b) u us h = refl
+no-gap (string b) u us h = refl
 no-gap (number n) u us h = refl
 no-gap (comparison r) u us h = refl
 no-gap (symbol underscore) u us h = refl

@@ -11,7 +11,7 @@ use Rattle.reading.proofs.Lists.{tokens-append, within-split, within-join}
 use Rattle.meaning.specs.Domain.{Operation, unequal}
 use Rattle.meaning.specs.Rules.{Bytes}
 use Rattle.grammar.specs.Tokens.{Sign, sign, <>, Symbol, underscore, not, minus, opening, closing, comma, dot, :-, plus, times, Token, comparison, symbol}
-use Rattle.grammar.specs.Trees.{Sequence, empty, _then_, count, Term, name, variable, number, negative, anonymous, Arguments, bare, parentheses, arguments, Atom, atom, Literal, positive, negated, compared, computed, Rule, fact, clause, Program}
+use Rattle.grammar.specs.Trees.{Sequence, empty, _then_, count, Term, name, variable, string, number, negative, anonymous, Arguments, bare, parentheses, arguments, Atom, atom, Literal, positive, negated, compared, computed, Rule, fact, clause, Program}
 use Rattle.grammar.specs.Spelling.{Mark, inside, Spelling, mere, with-commas, spell-term, spell-argument, spell-arguments, spell-signed, spell-atom, spell-operation, spell-compared, spell-literal, spell-nth-literal, spell-head, spell-rule, spell}
 use Rattle.grammar.specs.Variables.{Variables, meet-symbol, meet, met}
 use Rattle.grammar.specs.Sizes.{too-big, too-long, is-underscore, too-many-variables, refusal, fault, language}
@@ -41,6 +41,7 @@ behind-not true (u ∷ us) = cond (is-word u) (32 ∷ []) []
 unfoldable pub gap : Token → List Token → Bytes
 gap (Token.name b) ts = []
 gap (Token.variable b) ts = []
+gap (Token.string b) ts = []
 gap (Token.number n) ts = []
 gap (comparison r) ts = []
 gap (symbol s) ts = behind-not (is-not s) ts
@@ -107,6 +108,7 @@ module _ {ground : Bool} where
   unfolding spell-term plain-term gap is-not behind-not tokens Within fault refusal too-big too-long is-underscore too-many-variables met meet meet-symbol spaced token-bytes symbol-bytes digits
   plainer-term m (name b) = one _ (λ ts. refl)
   plainer-term m (variable u b) = one _ (λ ts. refl)
+  plainer-term m (string b) = one _ (λ ts. refl)
   plainer-term m (number n) = one _ (λ ts. refl)
   plainer-term m (negative zero) = record { within = λ vs w. (w .0, tt); same = λ vs. refl; kept = λ P e a. a .1; fewer = omega arith; shorter = λ r r′ k. omega arith }
   plainer-term m (negative (suc n)) = join {l = symbol minus at m ∷ []} (one _ (λ ts. refl)) (one _ (λ ts. refl))

@@ -67,12 +67,12 @@ module _ {ground : Bool} where
 
   a-term-sound : (s : State ground) (h : TermContext ground) → spelled s ≡ before-term h → Sound s (a-term h)
   unfolding OnMoves OnMove a-term spelled spell-term
-  a-term-sound s h e = ((λ b. rw e), ((λ n. rw e), (rw e, on-free (Adds s) ground _ (λ u. ((λ b. rw e), (rw e, tt))))))
+  a-term-sound s h e = ((λ b. rw e), ((λ b. rw e), ((λ n. rw e), (rw e, on-free (Adds s) ground _ (λ u. ((λ b. rw e), (rw e, tt)))))))
 
   else-wanted-sound : (a : AtomContext ground) → Sound (atom-wanted a) (else-wanted a)
   unfolding OnMoves OnMove else-wanted spelled before-atom before-term before-literal atom-mark term-mark spell-term spell-head with-commas
   else-wanted-sound (head-behind p) = on-free (Adds (atom-wanted (head-behind p))) ground _ (λ u. (append-nil _, tt))
-  else-wanted-sound (literal-in c) = ((λ b. refl), ((λ n. refl), (refl, (refl, tt))))
+  else-wanted-sound (literal-in c) = ((λ b. refl), ((λ b. refl), ((λ n. refl), (refl, (refl, tt)))))
   else-wanted-sound (not-in c) = tt
 
   else-minus-sound : (a : AtomContext ground) → Sound (atom-minus a) (else-minus a)

@@ -10,7 +10,7 @@ use Rattle.reading.specs.Reading.{tokens, seen}
 use Rattle.reading.proofs.Lists.{tokens-append}
 use Rattle.meaning.specs.Rules.{Bytes}
 use Rattle.meaning.specs.Values.{same-bytes}
-use Rattle.grammar.specs.Trees.{Term, name, variable, number, negative, anonymous, Atom, atom, Literal, positive, negated, compared, computed}
+use Rattle.grammar.specs.Trees.{Term, name, variable, string, number, negative, anonymous, Atom, atom, Literal, positive, negated, compared, computed}
 use Rattle.grammar.specs.Spelling.{Mark, Spelling, spell-term, spell-signed, spell-atom, spell-compared, spell-literal}
 use Rattle.grammar.specs.Variables.{Variables, number-of, meet-symbol, meet, met}
 use Rattle.grammar.specs.Sizes.{language}
@@ -41,6 +41,7 @@ module _ {ground : Bool} (m m′ : Mark) where
   unfolding tokens spell-term
   term-tokens (name b) = refl
   term-tokens (variable u b) = refl
+  term-tokens (string b) = refl
   term-tokens (number n) = refl
   term-tokens (negative n) = refl
   term-tokens (anonymous u) = refl

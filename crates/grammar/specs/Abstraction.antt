@@ -9,7 +9,7 @@ use Rattle.meaning.specs.Domain.{Comparison, unequal}
 use Rattle.meaning.specs.Values.{Value}
 use Rattle.meaning.specs.Rules.{Term as RuleTerm, constant, Atom as RuleAtom, Fact, Side, plain, Literal as RuleLiteral, builtin, Rule as MeantRule}
 use Rattle.grammar.specs.Tokens.{Sign, sign, <>}
-use Rattle.grammar.specs.Trees.{Sequence, empty, _then_, Term, name, variable, number, negative, anonymous, Arguments, bare, parentheses, arguments, Atom, atom, Literal, positive, negated, compared, computed, Rule, fact, clause, Program}
+use Rattle.grammar.specs.Trees.{Sequence, empty, _then_, Term, name, variable, string, number, negative, anonymous, Arguments, bare, parentheses, arguments, Atom, atom, Literal, positive, negated, compared, computed, Rule, fact, clause, Program}
 use Rattle.grammar.specs.Spelling.{inside, with-commas, spell-term, spell-argument, spell-nth-literal, spell-atom, spell-compared}
 use Rattle.grammar.specs.Variables.{Variables, number-of, met}
 
@@ -18,6 +18,7 @@ use Rattle.grammar.specs.Variables.{Variables, number-of, met}
 unfoldable pub term-for : {ground : Bool} → Variables → Term ground → RuleTerm Value
 term-for vs (name b) = constant (Value.name b)
 term-for vs (variable u b) = RuleTerm.variable (number-of b vs)
+term-for vs (string b) = constant (Value.string b)
 term-for vs (number n) = constant (Value.number (pos n))
 term-for vs (negative n) = constant (Value.number (negℤ (pos n)))
 term-for vs (anonymous u) = RuleTerm.variable (length vs)
@@ -63,6 +64,7 @@ rules-for (p then r) = rules-for p ▹ rule-for r
 unfoldable pub value-for : Term true → Value
 value-for (name b) = Value.name b
 value-for (variable u b) = absurd u
+value-for (string b) = Value.string b
 value-for (number n) = Value.number (pos n)
 value-for (negative n) = Value.number (negℤ (pos n))
 value-for (anonymous u) = absurd u

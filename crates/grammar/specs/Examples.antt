@@ -6,7 +6,7 @@ use lib.ListN.{replicate}
 use Rattle.meaning.specs.Domain.{equal, unequal, Operation}
 use Rattle.meaning.specs.Values.{Value}
 use Rattle.meaning.specs.Rules.{Term, constant, positive, builtin, Side, plain}
-use Rattle.grammar.specs.Tokens.{<>, underscore, not, minus, opening, closing, comma, :-, name, variable, number, comparison, symbol, stray}
+use Rattle.grammar.specs.Tokens.{<>, underscore, not, minus, opening, closing, comma, :-, plus, name, variable, string, number, comparison, symbol, stray}
 use Rattle.grammar.specs.Example.{reads, refuses, Example, PlainExample}
 use Rattle.grammar.specs.Words.{program, facts, a, X, equals, end, close, listed, repeated, call, body, too-great, value-a, value, atom-a, fact, rule, constraint, variables}
 
@@ -40,6 +40,26 @@ word-examples =
     ∷ program (call (variable (replicate 65 88) ∷ close)) (refuses 4 2)
     ∷ program (a ∷ name (replicate 65 97) ∷ end) (refuses 2 1)
     ∷ facts (call (variable (replicate 65 88) ∷ close)) (refuses 2 2)
+    ∷ []
+
+-- a string where a term may stand, of 64 bytes, `\"` being two of them, and of 65; but 2 where the grammar can't have it; as argument 9 and literal 17
+unfoldable pub string-examples : List Example
+string-examples =
+    program (call (string (replicate 64 97) ∷ close)) (reads (fact (atom-a (constant (Value.string (replicate 64 97)) ∷ [])) ∷ []))
+    ∷ program (call (string (replicate 65 97) ∷ close)) (refuses 4 2)
+    ∷ program (call (string (92 ∷ 34 ∷ replicate 62 97) ∷ close)) (reads (fact (atom-a (constant (Value.string (92 ∷ 34 ∷ replicate 62 97)) ∷ [])) ∷ []))
+    ∷ program (call (string (92 ∷ 34 ∷ replicate 63 97) ∷ close)) (refuses 4 2)
+    ∷ facts (call (string [] ∷ close)) (reads (fact (atom-a (constant (Value.string []) ∷ [])) ∷ []))
+    ∷ facts (call (string (replicate 65 97) ∷ close)) (refuses 4 2)
+    ∷ program (symbol :- ∷ string (97 ∷ []) ∷ equals ∷ string [] ∷ symbol plus ∷ string [] ∷ end) (reads (constraint (builtin equal (constant (Value.string (97 ∷ []))) (Side.computed (constant (Value.string [])) Operation.plus (constant (Value.string []))) ∷ []) ∷ []))
+    ∷ program (string (replicate 65 97) ∷ end) (refuses 2 0)
+    ∷ program (symbol :- ∷ symbol not ∷ string [] ∷ equals ∷ a ∷ end) (refuses 2 2)
+    ∷ program (symbol :- ∷ symbol minus ∷ string [] ∷ equals ∷ a ∷ end) (refuses 2 2)
+    ∷ program (symbol :- ∷ string [] ∷ end) (refuses 2 2)
+    ∷ program (call (symbol minus ∷ string [] ∷ close)) (refuses 2 3)
+    ∷ program (string [] ∷ symbol opening ∷ a ∷ close) (refuses 2 0)
+    ∷ program (call (listed 9 (string []) close)) (refuses 4 18)
+    ∷ program (a ∷ symbol :- ∷ listed 16 a (symbol comma ∷ string (replicate 65 97) ∷ [])) (refuses 4 34)
     ∷ []
 
 -- 1,000,000,000, and one more; -0 is 0; a number begins with 0 only where it is 0
@@ -100,12 +120,13 @@ rule-forms =
     ∷ []
 
 unfoldable pub examples : List Example
-examples = argument-examples ++ literal-examples ++ word-examples ++ number-examples ++ variable-examples ++ rule-examples ++ wrong-examples ++ rule-forms
+examples = argument-examples ++ literal-examples ++ word-examples ++ string-examples ++ number-examples ++ variable-examples ++ rule-examples ++ wrong-examples ++ rule-forms
 
--- a():-not a(-0),-a,a<>X. is a:-not a(0),-a,a!=X.; :-X=1--0. is :-X=1-0.; :-X=-0- -10. is :-X=0--10.
+-- a():-not a(-0),-a,a<>X. is a:-not a(0),-a,a!=X.; :-X=1--0. is :-X=1-0.; :-X=-0- -10. is :-X=0--10.; a string stays as it is
 unfoldable pub plain-examples : List PlainExample
 plain-examples =
     record { text = a ∷ symbol opening ∷ symbol closing ∷ symbol :- ∷ symbol not ∷ call (symbol minus ∷ number 0 ∷ symbol closing ∷ symbol comma ∷ symbol minus ∷ a ∷ symbol comma ∷ a ∷ comparison <> ∷ X ∷ end); plain = 97 ∷ 58 ∷ 45 ∷ 110 ∷ 111 ∷ 116 ∷ 32 ∷ 97 ∷ 40 ∷ 48 ∷ 41 ∷ 44 ∷ 45 ∷ 97 ∷ 44 ∷ 97 ∷ 33 ∷ 61 ∷ 88 ∷ 46 ∷ [] }
     ∷ record { text = symbol :- ∷ X ∷ equals ∷ number 1 ∷ symbol minus ∷ symbol minus ∷ number 0 ∷ end; plain = 58 ∷ 45 ∷ 88 ∷ 61 ∷ 49 ∷ 45 ∷ 48 ∷ 46 ∷ [] }
     ∷ record { text = symbol :- ∷ X ∷ equals ∷ symbol minus ∷ number 0 ∷ symbol minus ∷ symbol minus ∷ number 10 ∷ end; plain = 58 ∷ 45 ∷ 88 ∷ 61 ∷ 48 ∷ 45 ∷ 45 ∷ 49 ∷ 48 ∷ 46 ∷ [] }
+    ∷ record { text = symbol :- ∷ string (97 ∷ 92 ∷ 34 ∷ []) ∷ comparison <> ∷ X ∷ end; plain = 58 ∷ 45 ∷ 34 ∷ 97 ∷ 92 ∷ 34 ∷ 34 ∷ 33 ∷ 61 ∷ 88 ∷ 46 ∷ [] }
     ∷ []

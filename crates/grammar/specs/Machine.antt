@@ -6,9 +6,9 @@ use Rattle.reading.specs.Machine.{Step, Machine}
 use Rattle.meaning.specs.Domain.{Operation}
 use Rattle.meaning.specs.Rules.{Bytes}
 use Rattle.grammar.specs.Tokens.{underscore, not, minus, opening, closing, comma, dot, :-, plus, times, Token}
-use Rattle.grammar.specs.Trees.{Free, empty, _then_, Term, name, variable, number, negative, anonymous, bare, parentheses, arguments, Atom, atom, Literal, positive, negated, compared, computed, fact, clause, Program}
+use Rattle.grammar.specs.Trees.{Free, empty, _then_, Term, name, variable, string, number, negative, anonymous, bare, parentheses, arguments, Atom, atom, Literal, positive, negated, compared, computed, fact, clause, Program}
 use Rattle.grammar.specs.Spelling.{Mark, inside}
-use Rattle.grammar.specs.Moves.{Move, on-name, on-variable, on-number, on-comparison, on, free-moves, try}
+use Rattle.grammar.specs.Moves.{Move, on-name, on-variable, on-string, on-number, on-comparison, on, free-moves, try}
 use Rattle.grammar.specs.States.{BodyContext, AtomContext, head-behind, literal-in, not-in, TermContext, argument-in, left-in, right-in, operand-in, State, atom-wanted, atom-minus, named, opened, closed, term-wanted, term-minus, term-read, atom-mark, term-mark}
 
 -- a body behind which nothing has been read yet; with one more literal; as a rule, with its last literal
@@ -38,7 +38,7 @@ after-term (operand-in c t r u o) v = after-literal c (computed t r u o v)
 -- what else than an atom may begin
 unfoldable pub else-wanted : {ground : Bool} → AtomContext ground → List (Move (State ground))
 else-wanted {ground} (head-behind p) = free-moves ground (λ u. on (atom-mark (head-behind p)) :- (atom-wanted (literal-in (new-body u p none))) ∷ [])
-else-wanted (literal-in c) = let m = atom-mark (literal-in c) in on-variable m (λ b. term-read (left-in c) (variable (c .free) b)) ∷ on-number m (λ n. term-read (left-in c) (number n)) ∷ on m underscore (term-read (left-in c) (anonymous (c .free))) ∷ on m not (atom-wanted (not-in c)) ∷ []
+else-wanted (literal-in c) = let m = atom-mark (literal-in c) in on-variable m (λ b. term-read (left-in c) (variable (c .free) b)) ∷ on-string m (λ b. term-read (left-in c) (string b)) ∷ on-number m (λ n. term-read (left-in c) (number n)) ∷ on m underscore (term-read (left-in c) (anonymous (c .free))) ∷ on m not (atom-wanted (not-in c)) ∷ []
 else-wanted (not-in c) = []
 
 -- a literal that begins with a minus may be a comparison with a number on its left
@@ -55,7 +55,7 @@ else-named (literal-in c) false b = on-comparison (λ r. term-wanted (right-in c
 else-named (not-in c) s b = []
 
 unfoldable pub a-term : {ground : Bool} → TermContext ground → List (Move (State ground))
-a-term {ground} h = let m = term-mark h in on-name m (λ b. term-read h (name b)) ∷ on-number m (λ n. term-read h (number n)) ∷ on m minus (term-minus h) ∷ free-moves ground (λ u. on-variable m (λ b. term-read h (variable u b)) ∷ on m underscore (term-read h (anonymous u)) ∷ [])
+a-term {ground} h = let m = term-mark h in on-name m (λ b. term-read h (name b)) ∷ on-string m (λ b. term-read h (string b)) ∷ on-number m (λ n. term-read h (number n)) ∷ on m minus (term-minus h) ∷ free-moves ground (λ u. on-variable m (λ b. term-read h (variable u b)) ∷ on m underscore (term-read h (anonymous u)) ∷ [])
 
 unfoldable pub moves : {ground : Bool} → State ground → List (Move (State ground))
 moves (atom-wanted a) = let m = atom-mark a in on-name m (named a false) ∷ on m minus (atom-minus a) ∷ else-wanted a

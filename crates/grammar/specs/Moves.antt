@@ -7,12 +7,12 @@ use lib.Dec.{eqb}
 use Rattle.reading.specs.Machine.{Step}
 use Rattle.meaning.specs.Domain.{Comparison, equal, unequal, less, at-most, greater, at-least}
 use Rattle.meaning.specs.Rules.{Bytes}
-use Rattle.grammar.specs.Tokens.{Sign, sign, <>, Symbol, underscore, not, minus, opening, closing, comma, dot, :-, plus, times, Token, name, variable, number, comparison, symbol, stray}
+use Rattle.grammar.specs.Tokens.{Sign, sign, <>, Symbol, underscore, not, minus, opening, closing, comma, dot, :-, plus, times, Token, name, variable, string, number, comparison, symbol, stray}
 use Rattle.grammar.specs.Trees.{Free}
 use Rattle.grammar.specs.Spelling.{Mark, inside}
 
 pub data Move (S : Type 0) : Type 0 where
-  on-name on-variable : Mark → (Bytes → S) → Move S
+  on-name on-variable on-string : Mark → (Bytes → S) → Move S
   on-number : Mark → (ℕ → S) → Move S
   on-comparison : (Sign → S) → Move S
   on : Mark → Symbol → S → Move S
@@ -55,6 +55,7 @@ token-number (number n) = 4
 token-number (comparison r) = sign-number r
 token-number (symbol s) = symbol-number s
 token-number (stray b) = 21
+token-number (string b) = 22
 
 -- ---- the step that a list of moves allows
 
@@ -65,30 +66,42 @@ when false x = none
 unfoldable pub fire : {S : Type 0} → Move S → Token → Option (Step S Mark)
 fire (on-name m k) (name b) = some (record { mark = m; state = k b })
 fire (on-name m k) (variable b) = none
+fire (on-name m k) (string b) = none
 fire (on-name m k) (number n) = none
 fire (on-name m k) (comparison r) = none
 fire (on-name m k) (symbol s) = none
 fire (on-name m k) (stray b) = none
 fire (on-variable m k) (name b) = none
 fire (on-variable m k) (variable b) = some (record { mark = m; state = k b })
+fire (on-variable m k) (string b) = none
 fire (on-variable m k) (number n) = none
 fire (on-variable m k) (comparison r) = none
 fire (on-variable m k) (symbol s) = none
 fire (on-variable m k) (stray b) = none
+fire (on-string m k) (name b) = none
+fire (on-string m k) (variable b) = none
+fire (on-string m k) (string b) = some (record { mark = m; state = k b })
+fire (on-string m k) (number n) = none
+fire (on-string m k) (comparison r) = none
+fire (on-string m k) (symbol s) = none
+fire (on-string m k) (stray b) = none
 fire (on-number m k) (name b) = none
 fire (on-number m k) (variable b) = none
+fire (on-number m k) (string b) = none
 fire (on-number m k) (number n) = some (record { mark = m; state = k n })
 fire (on-number m k) (comparison r) = none
 fire (on-number m k) (symbol s) = none
 fire (on-number m k) (stray b) = none
 fire (on-comparison k) (name b) = none
 fire (on-comparison k) (variable b) = none
+fire (on-comparison k) (string b) = none
 fire (on-comparison k) (number n) = none
 fire (on-comparison k) (comparison r) = some (record { mark = inside; state = k r })
 fire (on-comparison k) (symbol s) = none
 fire (on-comparison k) (stray b) = none
 fire (on m z x) (name b) = none
 fire (on m z x) (variable b) = none
+fire (on m z x) (string b) = none
 fire (on m z x) (number n) = none
 fire (on m z x) (comparison r) = none
 fire (on m z x) (symbol s) = when (eqb (symbol-number s) (symbol-number z)) (record { mark = m; state = x })

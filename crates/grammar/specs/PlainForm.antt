@@ -4,7 +4,7 @@ use mathlib.Core.Option.{Option, none, some}
 use Prim.Native.Nat.{zero, suc}
 use Rattle.meaning.specs.Domain.{unequal}
 use Rattle.grammar.specs.Tokens.{Sign, sign, <>}
-use Rattle.grammar.specs.Trees.{Sequence, empty, _then_, Term, name, variable, number, negative, anonymous, Arguments, bare, parentheses, arguments, Atom, atom, Literal, positive, negated, compared, computed, Rule, fact, clause, Program}
+use Rattle.grammar.specs.Trees.{Sequence, empty, _then_, Term, name, variable, string, number, negative, anonymous, Arguments, bare, parentheses, arguments, Atom, atom, Literal, positive, negated, compared, computed, Rule, fact, clause, Program}
 
 unfoldable pub each : {A : Type 0} → (A → A) → Sequence A → Sequence A
 each f empty = empty
@@ -13,6 +13,7 @@ each f (xs then x) = each f xs then f x
 unfoldable pub plain-term : {ground : Bool} → Term ground → Term ground
 plain-term (name b) = name b
 plain-term (variable u b) = variable u b
+plain-term (string b) = string b
 plain-term (number n) = number n
 plain-term (negative zero) = number 0
 plain-term (negative (suc n)) = negative (suc n)

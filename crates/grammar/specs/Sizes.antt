@@ -5,7 +5,7 @@ use Prim.Native.Nat.{ℕ, suc}
 use lib.Dec.{ltb}
 use lib.ListN.{length}
 use Rattle.reading.specs.Reading.{Marked, Language}
-use Rattle.grammar.specs.Tokens.{Symbol, underscore, not, minus, opening, closing, comma, dot, :-, plus, times, Token, name, variable, number, comparison, symbol, stray}
+use Rattle.grammar.specs.Tokens.{Symbol, underscore, not, minus, opening, closing, comma, dot, :-, plus, times, Token, name, variable, string, number, comparison, symbol, stray}
 use Rattle.grammar.specs.Trees.{Program}
 use Rattle.grammar.specs.Spelling.{Mark, inside, argument, literal, rule, spell}
 use Rattle.grammar.specs.Variables.{Variables, with-variable, meet}
@@ -34,15 +34,17 @@ most-rules true = 1_024
 unfoldable pub too-big : Token → Bool
 too-big (name b) = false
 too-big (variable b) = false
+too-big (string b) = false
 too-big (number n) = ltb greatest-number n
 too-big (comparison r) = false
 too-big (symbol s) = false
 too-big (stray b) = false
 
--- a name or a variable over its size
+-- a name, a variable or a string over its size
 unfoldable pub too-long : Token → Bool
 too-long (name b) = ltb most-bytes (length b)
 too-long (variable b) = ltb most-bytes (length b)
+too-long (string b) = ltb most-bytes (length b)
 too-long (number n) = false
 too-long (comparison r) = false
 too-long (symbol s) = false
@@ -71,6 +73,7 @@ is-underscore times = false
 unfoldable pub too-many-variables : Variables → Token → Bool
 too-many-variables vs (name b) = false
 too-many-variables vs (variable b) = ltb most-variables (length (with-variable vs b))
+too-many-variables vs (string b) = false
 too-many-variables vs (number n) = false
 too-many-variables vs (comparison r) = false
 too-many-variables vs (symbol s) = cond (is-underscore s) (ltb most-variables (suc (length vs))) false

@@ -31,6 +31,7 @@ with-commas f (xs then x) = with-commas f xs ++ f (suc (count xs)) x ▹ mere co
 unfoldable pub spell-term : {ground : Bool} → Mark → Term ground → Spelling
 spell-term m (Term.name b) = Token.name b at m ∷ []
 spell-term m (Term.variable u b) = Token.variable b at m ∷ []
+spell-term m (Term.string b) = Token.string b at m ∷ []
 spell-term m (Term.number n) = Token.number n at m ∷ []
 spell-term m (Term.negative n) = symbol minus at m ∷ Token.number n at inside ∷ []
 spell-term m (Term.anonymous u) = symbol underscore at m ∷ []

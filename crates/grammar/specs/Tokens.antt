@@ -12,10 +12,10 @@ pub data Sign : Type 0 where
 pub data Symbol : Type 0 where
   underscore not minus opening closing comma dot :- plus times : Symbol
 
--- A name or a variable has its bytes, a number its value: it is written in one way only.
+-- A name or a variable has its bytes, a string those between its quotes, a number its value: it is written in one way only.
 -- A stray byte is one where no token starts; no tree has it.
 pub data Token : Type 0 where
-  name variable : Bytes → Token
+  name variable string : Bytes → Token
   number : ℕ → Token
   comparison : Sign → Token
   symbol : Symbol → Token

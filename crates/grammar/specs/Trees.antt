@@ -22,10 +22,11 @@ unfoldable pub count : {A : Type 0} → Sequence A → ℕ
 count empty = 0
 count (xs then x) = suc (count xs)
 
--- a name, a variable, a number, a number behind a minus, `_`
+-- a name, a variable, a string, a number, a number behind a minus, `_`
 pub data Term (ground : Bool) : Type 0 where
   name : Bytes → Term ground
   variable : Free ground → Bytes → Term ground
+  string : Bytes → Term ground
   number negative : ℕ → Term ground
   anonymous : Free ground → Term ground
 

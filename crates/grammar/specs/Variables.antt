@@ -8,7 +8,7 @@ use lib.ListN.{length}
 use Rattle.reading.specs.Reading.{_▹_}
 use Rattle.meaning.specs.Rules.{Bytes}
 use Rattle.meaning.specs.Values.{same-bytes}
-use Rattle.grammar.specs.Tokens.{Symbol, underscore, not, minus, opening, closing, comma, dot, :-, plus, times, Token, name, variable, number, comparison, symbol, stray}
+use Rattle.grammar.specs.Tokens.{Symbol, underscore, not, minus, opening, closing, comma, dot, :-, plus, times, Token, name, variable, string, number, comparison, symbol, stray}
 use Rattle.grammar.specs.Spelling.{Spelling}
 
 -- each variable once, in the order of first occurrences; none: a `_`, which is a variable of its own
@@ -42,6 +42,7 @@ meet-symbol vs times = vs
 unfoldable pub meet : Variables → Token → Variables
 meet vs (name b) = vs
 meet vs (variable b) = with-variable vs b
+meet vs (string b) = vs
 meet vs (number n) = vs
 meet vs (comparison r) = vs
 meet vs (symbol s) = meet-symbol vs s

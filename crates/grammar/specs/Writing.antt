@@ -7,7 +7,7 @@ use Prim.Native.Nat.{ℕ, zero, suc, _+_, _/_, _%_}
 use lib.Dec.{ltb}
 use Rattle.meaning.specs.Domain.{Comparison, equal, unequal, less, at-most, greater, at-least}
 use Rattle.meaning.specs.Rules.{Bytes}
-use Rattle.grammar.specs.Tokens.{Sign, sign, <>, Symbol, underscore, not, minus, opening, closing, comma, dot, :-, plus, times, Token, name, variable, number, comparison, symbol, stray}
+use Rattle.grammar.specs.Tokens.{Sign, sign, <>, Symbol, underscore, not, minus, opening, closing, comma, dot, :-, plus, times, Token, name, variable, string, number, comparison, symbol, stray}
 
 -- the digits of n, with at most k of them before the last
 unfoldable pub digits : ℕ → ℕ → Bytes
@@ -41,6 +41,7 @@ sign-bytes <> = 60 ∷ 62 ∷ []
 unfoldable pub token-bytes : Token → Bytes
 token-bytes (name b) = b
 token-bytes (variable b) = b
+token-bytes (string b) = 34 ∷ b ++ 34 ∷ []
 token-bytes (number n) = digits n n
 token-bytes (comparison r) = sign-bytes r
 token-bytes (symbol s) = symbol-bytes s
@@ -62,6 +63,7 @@ is-word-symbol times = false
 unfoldable pub is-word : Token → Bool
 is-word (name b) = true
 is-word (variable b) = true
+is-word (string b) = false
 is-word (number n) = true
 is-word (comparison r) = false
 is-word (symbol s) = is-word-symbol s
@@ -70,6 +72,7 @@ is-word (stray b) = false
 unfoldable pub is-comparison : Token → Bool
 is-comparison (name b) = false
 is-comparison (variable b) = false
+is-comparison (string b) = false
 is-comparison (number n) = false
 is-comparison (comparison r) = true
 is-comparison (symbol s) = false

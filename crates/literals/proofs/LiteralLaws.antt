@@ -1,11 +1,13 @@
 -- What the functions that read a literal return, by the tests that led there.
 use mathlib.Core.Path.{_≡_, refl, ap, subst, sym as inv}
-use mathlib.Core.Bool.{Bool, true, false, _&&_}
+use mathlib.Core.Bool.{Bool, true, false, _&&_, _||_, true≢false}
+use mathlib.Core.Logic.{_⊎_, inl, inr}
 use mathlib.Core.List.{List}
 use Prim.Native.Nat.{ℕ, _+_, _-_, _≤_, _<_}
 use native.Mathlib.Omega.{arith}
-use lib.Dec.{leb}
+use lib.Dec.{eqb, leb}
 use lib.ListN.{length}
+use borrow.Author.Tests.{eqb-true, eqb-false, leb-true, leb-false}
 use Rattle.tokens.specs.Place.{past}
 use Rattle.tokens.specs.declared.place.Place.{Place}
 use Rattle.tokens.specs.Places.{places-in}
@@ -15,7 +17,7 @@ use Rattle.meaning.specs.Values.{Value}
 use Rattle.codes.specs.Codes.{first-name}
 use Rattle.names.specs.declared.Found.the-variants.{At}
 use Rattle.names.specs.Numbering.{Interns}
-use Rattle.names.proofs.Numbered.{grown-at}
+use Rattle.names.proofs.Numbered.{interned-name}
 use Rattle.syntax.specs.declared.token.TokenRead.{TokenRead}
 use Rattle.syntax.specs.Text.{tokenRead, next-of}
 use Rattle.syntax.specs.Fills.{Fills, read, stopped}
@@ -25,7 +27,7 @@ use Rattle.syntax.proofs.Literals as laws
 use Rattle.rows.specs.Coding.{CodedTerm, Codes}
 use Rattle.rows.proofs.Growth.{grows-none, grows-then}
 use Rattle.rows.proofs.Literals.{coded-positive, coded-negated}
-use Rattle.rows.proofs.Terms.{coded-name-term}
+use Rattle.rows.proofs.Terms.{coded-constant}
 use Rattle.terms.specs.declared.cursor.Cursor.{Cursor}
 use Rattle.terms.specs.declared.term.TermRead.{TermRead}
 use Rattle.terms.specs.Cursors.{met-before}
@@ -36,8 +38,26 @@ use Rattle.atoms.specs.Atoms.{ReadsNamed, ReadsMinus, ReadsAtom}
 use Rattle.atoms.proofs.AtomLaws.{with-name, name-stands, ready-named}
 use Rattle.literals.specs.declared.builtin.LiteralRead.{LiteralRead}
 use Rattle.literals.specs.Builtins.{ReadyBehind, ReadySide, LiteralStands, ReadsSide, ReadsCompared, behind-left, stoppedLiteral}
-use Rattle.literals.specs.Literals.{ReadsLiteral, ReadsMinusLiteral, atomLiteral}
+use Rattle.literals.specs.Literals.{ReadsLiteral, ReadsMinusLiteral, begins-term, atomLiteral}
 use Rattle.literals.proofs.BuiltinLaws.{compared-refused, compared-side}
+
+-- ---- what begins a term
+
+a-term : (kind : ℕ) → begins-term kind ≡ true → (kind ≤ 4) ⊎ (kind ≡ 22)
+unfolding begins-term
+a-term kind = go (leb kind 4) refl
+  where
+    go : (b : Bool) → leb kind 4 ≡ b → (b || eqb kind 22) ≡ true → (kind ≤ 4) ⊎ (kind ≡ 22)
+    go true e h = inl (leb-true kind 4 e)
+    go false e h = inr (eqb-true kind 22 h)
+
+no-term : (kind : ℕ) → begins-term kind ≡ false → (4 < kind) × (kind ≡ 22 → ⊥)
+unfolding begins-term
+no-term kind = go (leb kind 4) refl
+  where
+    go : (b : Bool) → leb kind 4 ≡ b → (b || eqb kind 22) ≡ false → (4 < kind) × (kind ≡ 22 → ⊥)
+    go true e h = absurd (true≢false h)
+    go false e h = (leb-false kind 4 e, eqb-false kind 22 h)
 
 module _ (program output : Bytes) (names variables : List ℕ) (k : Cursor) (ready : ReadyBehind program output names variables k) (t : TokenRead) (et : t ≡ tokenRead false program (k .at .start)) where
   abbrev v : List Place
@@ -62,7 +82,7 @@ module _ (program output : Bytes) (names variables : List ℕ) (k : Cursor) (rea
       joined next l h = with-name program output program names variables k (ready .ready) t as-token ek names₁ i interned next l h
 
       pub name-compared : (leb 13 (t′ .kind) && leb (t′ .kind) 19) ≡ true → (names′ variables′ : List ℕ) → ReadsSide program output names₁ variables (behind-token k t) (first-name + i) r names′ variables′ → ReadsLiteral program output names variables k r names′ variables′
-      name-compared e names′ variables′ g = laws.name-compared (k .over) program (k .at .start) t et v ek code ec z t′ et′ e (λ l y y′ s. joined _ y′ s) (g _ (coded-name-term _ _ i _ refl (grown-at _ _ _ i (interned .1))))
+      name-compared e names′ variables′ g = laws.name-compared (k .over) program (k .at .start) t et v ek code ec z t′ et′ e (λ l y y′ s. joined _ y′ s) (g _ (coded-constant _ (interned-name program output names _ names₁ i interned) (omega arith)))
 
       pub name-atom : (leb 13 (t′ .kind) && leb (t′ .kind) 19) ≡ false → (a : AtomRead) (names′ variables′ : List ℕ) → ReadsNamed program output program names₁ variables (behind-token k t) (record { negative = false; number = i }) a names′ variables′ → r ≡ atomLiteral 0 a → ReadsLiteral program output names variables k r names′ variables′
       name-atom e a names′ variables′ g er = rw er (laws.name-atom (k .over) program (k .at .start) t et v ek code ec z t′ et′ e (λ b y y′ s. let h = joined _ y′ s in record { grows = h .grows; coded = coded-positive _ (a .codes) b (h .coded) }) (in-program-named g _ (name-stands program output program names variables k (ready .ready) t as-token ek names₁ i interned)))
@@ -111,10 +131,10 @@ module _ (program output : Bytes) (names variables : List ℕ) (k : Cursor) (rea
     pub minus-goes : t .kind ≡ 10 → k .over ≡ false → (names′ variables′ : List ℕ) → ReadsMinusLiteral program output names variables (behind-token k t) r names′ variables′ → ReadsLiteral program output names variables k r names′ variables′
     minus-goes ek o names′ variables′ g = laws.minus-goes (k .over) program (k .at .start) t et v ek o (λ l y y′ s. codes-wider _ (omega arith) s) g
 
-    pub literal-wrong : (names′ variables′ : List ℕ) → (t .kind ≡ 0 → ⊥) → (t .kind ≡ 10 → ⊥) → 4 < t .kind → r ≡ stoppedLiteral 2 (t .place) (k .met) → ReadsLiteral program output names variables k r names′ variables′
-    literal-wrong names′ variables′ a b l er = rw er (laws.literal-wrong (k .over) program (k .at .start) t et v a b l)
+    pub literal-wrong : (names′ variables′ : List ℕ) → (t .kind ≡ 0 → ⊥) → (t .kind ≡ 10 → ⊥) → begins-term (t .kind) ≡ false → r ≡ stoppedLiteral 2 (t .place) (k .met) → ReadsLiteral program output names variables k r names′ variables′
+    literal-wrong names′ variables′ a b l er = let n = no-term (t .kind) l in rw er (laws.literal-wrong (k .over) program (k .at .start) t et v a b (n .0) (n .1))
 
-  -- a variable, `_` or a number: a comparison
+  -- a variable, `_`, a number or a string: a comparison
   module _ (w : TermRead) (names₁ variables₁ : List ℕ) (g : ReadsTerm program output program names variables k w names₁ variables₁) where
     in-program-term : ReadsTerm program output program names variables (record { base = k .base; at = k .at; ground = false; over = k .over; met = k .met }) w names₁ variables₁
     in-program-term = rw (ready .in-program) at g
@@ -126,5 +146,5 @@ module _ (program output : Bytes) (names variables : List ℕ) (k : Cursor) (rea
         go (read c b m o f x s y q) = record { behind = record { ready = ready-on (ready .ready) (behind-left k w) refl (s .grows) b m (fits-met variables₁ (w .met) f) long; in-program = ready .in-program }; term = _; stands = s .coded }
         go (stopped c q) = absurd (omega arith)
 
-    pub literal-compared : (t .kind ≡ 0 → ⊥) → (t .kind ≡ 1 → ⊥) → t .kind ≤ 4 → (r : LiteralRead) (names′ variables′ : List ℕ) → ReadsCompared program output names₁ variables₁ k w r names′ variables′ → ReadsLiteral program output names variables k r names′ variables′
-    literal-compared a b l r names′ variables′ c = laws.literal-compared (k .over) program (k .at .start) t et v {T = λ (d : Term Value) (y : Literal Value). LiteralStands program output names₁ (w .progress .place .start) r names′ y} a b l in-program-term (compared-refused c) (λ z d s. compared-side c z d (s .coded)) (λ d y j j′ s h. record { grows = grows-then program output (s .grows) _ (h .grows) (omega arith); coded = h .coded })
+    pub literal-compared : (t .kind ≡ 0 → ⊥) → (t .kind ≡ 1 → ⊥) → begins-term (t .kind) ≡ true → (r : LiteralRead) (names′ variables′ : List ℕ) → ReadsCompared program output names₁ variables₁ k w r names′ variables′ → ReadsLiteral program output names variables k r names′ variables′
+    literal-compared a b l r names′ variables′ c = laws.literal-compared (k .over) program (k .at .start) t et v {T = λ (d : Term Value) (y : Literal Value). LiteralStands program output names₁ (w .progress .place .start) r names′ y} a b (a-term (t .kind) l) in-program-term (compared-refused c) (λ z d s. compared-side c z d (s .coded)) (λ d y j j′ s h. record { grows = grows-then program output (s .grows) _ (h .grows) (omega arith); coded = h .coded })

@@ -1,8 +1,11 @@
 -- Literals as rows: what the functions that read them promise.
 use mathlib.Core.Path.{_≡_}
-use mathlib.Core.Bool.{false}
+use mathlib.Core.Bool.{Bool, false, _||_}
 use mathlib.Core.List.{List, _∷_}
 use Prim.Native.Nat.{ℕ}
+use lib.Dec.{eqb, leb}
+use Rattle.tokens.specs.declared.kind.Kind.the-variants.{Number, String}
+use Rattle.tokens.specs.Kind.{kindNumber}
 use Rattle.tokens.specs.Places.{places-in}
 use Rattle.meaning.specs.Rules.{Bytes}
 use Rattle.tables.specs.Rows.{no-operation}
@@ -27,6 +30,10 @@ pub record ReadyToken (program output : Bytes) (names variables : List ℕ) (k :
   pub ready : ReadyBehind program output names variables k
   pub is-token : t ≡ tokenRead false program (k .at .start)
   pub is-name : t .kind ≡ 0
+
+-- a token of the kind is a term, or one that literals with other beginnings are told apart by before: a name, or `not`
+unfoldable pub begins-term : ℕ → Bool
+begins-term kind = leb kind (kindNumber Number) || eqb kind (kindNumber String)
 
 -- ---- what a part of it answers
 

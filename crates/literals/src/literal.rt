@@ -1,7 +1,7 @@
 // A literal, read as its row: a classical atom, `not` and a classical atom, or a built-in atom.
 ghost use mathlib.Core.Path.{_≡_};
 ghost use Rattle.literals.specs.Builtins.{ReadyBehind};
-ghost use Rattle.literals.specs.Literals.{atomLiteral, ReadyToken, ReadsMinusLiteral, ReadsLiteral};
+ghost use Rattle.literals.specs.Literals.{begins-term, atomLiteral, ReadyToken, ReadsMinusLiteral, ReadsLiteral};
 use crate::builtin::LiteralRead;
 use crate::builtin::compared;
 use crate::builtin::side_at;
@@ -30,6 +30,7 @@ use tokens::kind::MINUS;
 use tokens::kind::NAME;
 use tokens::kind::NOT;
 use tokens::kind::NUMBER;
+use tokens::kind::STRING;
 use tokens::place::past;
 
 // The literal of an atom that has been read, or was refused.
@@ -97,6 +98,16 @@ fn minus_literal<'a>(
     of_atom(POSITIVE, read)
 }
 
+// Does a term begin with a token of the kind? A variable, `_`, a number and a string are one; a name may begin an atom, and a minus too.
+fn begins_term(kind: u8) -> bool
+    ensures { λ r. ⌜ r ≡ begins-term kind ⌝ }
+{
+    if kind <= NUMBER {
+        return true;
+    }
+    kind == STRING
+}
+
 // The literal where the cursor stands.
 pub fn literal_at<'a>(
     program: &'a [u8],
@@ -127,7 +138,7 @@ pub fn literal_at<'a>(
         }
         return minus_literal(program, output, names, variables, behind);
     }
-    if NUMBER < token.kind {
+    if !begins_term(token.kind) {
         return stopped(WRONG, token.place, cursor.met);
     }
     let left = term_at(program, output, program, names, variables, cursor, token);

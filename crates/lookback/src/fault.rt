@@ -2,6 +2,7 @@
 use crate::files::OUTPUT;
 use crate::files::PROGRAM;
 use crate::misplaced;
+use crate::quote;
 use crate::tell::number;
 use crate::tell::quoted;
 use crate::tell::say;
@@ -58,6 +59,9 @@ fn not_of_rules(token: &[u8]) {
     if same_bytes(token, b"%") {
         say(b": no comment starts with %*");
     }
+    if quote::is_alone(token) {
+        quote::opens_none();
+    }
 }
 
 fn large_number(token: &[u8]) {
@@ -67,8 +71,19 @@ fn large_number(token: &[u8]) {
     size(MOST_NUMBER);
 }
 
-fn long_name(token: &[u8]) {
+// Is it a name, a variable or a string that has too many bytes?
+fn is_long(token: &[u8]) -> bool {
+    if quote::starts(token) {
+        return MOST_NAME + 2 < token.len();
+    }
+    MOST_NAME < token.len()
+}
+
+fn long(token: &[u8]) {
     quoted(token);
+    if quote::starts(token) {
+        return most(b" has more than ", MOST_NAME, b" bytes between its quotes");
+    }
     most(
         b" is longer than ",
         MOST_NAME,
@@ -84,8 +99,8 @@ fn too_many(token: &[u8]) {
 }
 
 fn program_size(token: &[u8]) {
-    if MOST_NAME < token.len() {
-        return long_name(token);
+    if is_long(token) {
+        return long(token);
     }
     too_many(token);
     most(b", a body ", MOST_LITERALS, b" literals");
@@ -94,8 +109,8 @@ fn program_size(token: &[u8]) {
 }
 
 fn facts_size(token: &[u8]) {
-    if MOST_NAME < token.len() {
-        return long_name(token);
+    if is_long(token) {
+        return long(token);
     }
     too_many(token);
     most(b", the facts line ", MOST_FACTS, b" facts");

@@ -11,6 +11,7 @@ mod fault;
 mod files;
 mod misplaced;
 mod print;
+mod quote;
 mod tell;
 
 // The places that are lent: as many as a candidate may have facts.

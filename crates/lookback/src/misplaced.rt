@@ -1,5 +1,6 @@
 // What refusal 2 says of a solver's output: what is missing where it ends, or its facts line does, and what can't stand where it does.
 // Which of them it is shows in the line before the fault: reading stops at the first fault, so the lines up to there are right.
+use crate::quote;
 use crate::tell::quoted;
 use crate::tell::say;
 use report::word::starts_with;
@@ -60,9 +61,11 @@ fn out_of_place(line: &[u8]) {
 
 fn not_of_facts(token: &[u8]) {
     quoted(token);
-    say(
-        b" can't stand here: the facts line has atoms without variables, each with its dot, and no comment",
-    );
+    say(b" can't stand here");
+    if quote::is_alone(token) {
+        return quote::opens_none();
+    }
+    say(b": the facts line has atoms without variables, each with its dot, and no comment");
 }
 
 // What is missing or can't stand at a place of the output.

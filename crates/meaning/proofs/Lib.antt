@@ -12,6 +12,7 @@ pub mod Reduct
 pub mod Rounds
 pub mod Settled
 pub mod Values
+pub mod Ordered
 pub mod Herbrand
 pub mod Examples
 pub mod ValueExamples

@@ -1,20 +1,24 @@
--- The examples of values compute as they are worked out by hand. Between a number and a name every comparison is false and no operation
--- has a result, whatever the two are. The statements stand at the end.
+-- The examples of values compute as they are worked out by hand, and no operation has a result where one of the two is no number.
+-- The statements stand at the end.
 use mathlib.Core.Path.{_≡_, refl}
-use mathlib.Core.Bool.{false}
-use mathlib.Core.Option.{none}
+use mathlib.Core.Bool.{false, true≢false}
+use mathlib.Core.Option.{Option, none, some}
 use mathlib.Core.List.{map}
 use lib.IntN.{ℤ}
-use Rattle.meaning.specs.Domain.{Comparison, equal, unequal, less, at-most, greater, at-least, Operation}
-use Rattle.meaning.specs.Rules.{Bytes}
-use Rattle.meaning.specs.Values.{Value, number, name, same-number, same-bytes, bytes-before, compare-numbers, compare-names, compare-values, operate-numbers, operate-values}
+use Rattle.meaning.specs.Domain.{Operation}
+use Rattle.meaning.specs.Values.{Value, number, name, string, same-number, same-bytes, same-value, bytes-before, value-before, compare-by, compare-values, number?, operate-numbers, operate-numbers?, operate-values, is-number}
 use Rattle.meaning.specs.Ascii.{last-bytes, ascii}
 use Rattle.meaning.specs.ValueExamples.{Compared, comparisons, Operated, results}
 
 -- to unfold this is to unfold all that values compute with
 opened : Unit {0}
-unfolding same-number same-bytes bytes-before compare-numbers compare-names compare-values operate-numbers operate-values last-bytes ascii
+unfolding same-number same-bytes same-value bytes-before value-before compare-by compare-values operate-numbers last-bytes ascii
 opened = tt
+
+none-right : (o : Operation) (n : Option ℤ) → operate-numbers? o n none ≡ none
+unfolding operate-numbers?
+none-right o none = refl
+none-right o (some n) = refl
 
 -- ---- the statements
 
@@ -26,18 +30,9 @@ pub operated : map (λ (e : Operated). operate-numbers (e .operation) (e .left) 
 unfolding opened
 operated = refl
 
--- between a number and a name
-pub false-between-kinds : (c : Comparison) (m : ℤ) (b : Bytes) → (compare-values c (number m) (name b) ≡ false) × (compare-values c (name b) (number m) ≡ false)
-unfolding compare-values
-false-between-kinds equal m b = (refl, refl)
-false-between-kinds unequal m b = (refl, refl)
-false-between-kinds less m b = (refl, refl)
-false-between-kinds at-most m b = (refl, refl)
-false-between-kinds greater m b = (refl, refl)
-false-between-kinds at-least m b = (refl, refl)
-
--- a name is no operand
-pub no-result : (o : Operation) (v : Value) (b : Bytes) → (operate-values o v (name b) ≡ none) × (operate-values o (name b) v ≡ none)
-unfolding operate-values
-no-result o (number n) b = (refl, refl)
-no-result o (name a) b = (refl, refl)
+-- a name is no operand, and neither is a string
+pub no-result : (o : Operation) (v w : Value) → is-number v ≡ false → (operate-values o v w ≡ none) × (operate-values o w v ≡ none)
+unfolding operate-values operate-numbers? number? is-number
+no-result o (number m) w h = absurd (true≢false h)
+no-result o (name a) w h = (refl, none-right o (number? w))
+no-result o (string a) w h = (refl, none-right o (number? w))

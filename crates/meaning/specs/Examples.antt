@@ -1,13 +1,13 @@
--- Document 01's small examples T1 to T12, as rules and facts.
+-- Document 01's small examples T1 to T12, as rules and facts; and document 02's sites that are numbers.
 use Prim.Native.Nat.{ℕ}
 use Prim.Native.String.{String}
 use mathlib.Core.Bool.{false}
 use mathlib.Core.Option.{none, some}
 use mathlib.Core.List.{List, [], _∷_}
 use lib.IntN.{pos}
-use Rattle.meaning.specs.Domain.{equal, plus}
-use Rattle.meaning.specs.Rules.{Term, constant, variable, Atom, Fact, computed, Literal, positive, negated, builtin, Rule}
-use Rattle.meaning.specs.Values.{Value, number, name}
+use Rattle.meaning.specs.Domain.{equal, unequal, less, plus}
+use Rattle.meaning.specs.Rules.{Term, constant, variable, Atom, Fact, plain, computed, Literal, positive, negated, builtin, Rule}
+use Rattle.meaning.specs.Values.{Value, number, name, string}
 use Rattle.meaning.specs.Verdicts.{accepted, unsatisfied, smaller}
 use Rattle.meaning.specs.Outcomes.{Outcome, out-of-range, verdict}
 use Rattle.meaning.specs.Ascii.{ascii}
@@ -65,8 +65,8 @@ next v =
     ∷ rule (atom "q" (constant v ∷ [])) []
     ∷ []
 
-abbrev q : Value → Fact Value
-q v = atom "q" (v ∷ [])
+abbrev q : {X : Type 0} → X → Atom X
+q x = atom "q" (x ∷ [])
 
 abbrev pub examples : List Example
 examples =
@@ -82,4 +82,36 @@ examples =
     ∷ example (next (word "a")) (q (word "a") ∷ []) (verdict (accepted 1 1 (1 ∷ [])))
     ∷ example (next (whole 999_999_999)) (q (whole 999_999_999) ∷ atom "p" (whole 1_000_000_000 ∷ []) ∷ []) (verdict (accepted 2 2 (1 ∷ 2 ∷ [])))
     ∷ example (next (whole 1_000_000_000)) (q (whole 1_000_000_000) ∷ []) (out-of-range 1)
+    ∷ []
+
+-- ---- one order over numbers, names and strings
+
+-- at(u1,7).away(U):-at(U,S),S!=north.
+abbrev away : List (Rule Value)
+away =
+    rule (atom "at" (constant (word "u1") ∷ constant (whole 7) ∷ [])) []
+    ∷ rule (atom "away" (variable 0 ∷ [])) (positive (atom "at" (variable 0 ∷ variable 1 ∷ [])) ∷ builtin unequal (variable 1) (plain (constant (word "north"))) ∷ [])
+    ∷ []
+
+abbrev at-seven : Fact Value
+at-seven = atom "at" (word "u1" ∷ whole 7 ∷ [])
+
+abbrev text : String → Value
+text s = string (ascii s)
+
+-- q(7).q(b).q("b").q("b c").p(X):-q(X),7<X,X<"b c".
+abbrev between : List (Rule Value)
+between =
+    rule (q (constant (whole 7))) []
+    ∷ rule (q (constant (word "b"))) []
+    ∷ rule (q (constant (text "b"))) []
+    ∷ rule (q (constant (text "b c"))) []
+    ∷ rule (atom "p" (variable 0 ∷ [])) (positive (q (variable 0)) ∷ builtin less (constant (whole 7)) (plain (variable 0)) ∷ builtin less (variable 0) (plain (constant (text "b c"))) ∷ [])
+    ∷ []
+
+abbrev pub ordered : List Example
+ordered =
+    example away (at-seven ∷ atom "away" (word "u1" ∷ []) ∷ []) (verdict (accepted 2 2 (1 ∷ 2 ∷ [])))
+    ∷ example away (at-seven ∷ []) (verdict (unsatisfied 2 (1 ∷ [])))
+    ∷ example between (q (whole 7) ∷ q (word "b") ∷ q (text "b") ∷ q (text "b c") ∷ atom "p" (word "b" ∷ []) ∷ atom "p" (text "b" ∷ []) ∷ []) (verdict (accepted 6 2 (1 ∷ 1 ∷ 1 ∷ 1 ∷ 2 ∷ 2 ∷ [])))
     ∷ []

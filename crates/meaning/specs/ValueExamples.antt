@@ -1,10 +1,10 @@
--- Comparisons and results of operations, worked out by hand from document 01.
+-- Comparisons and results of operations, worked out by hand from documents 01 and 02.
 use Prim.Native.String.{String}
 use mathlib.Core.Bool.{Bool, true, false}
 use mathlib.Core.List.{List, [], _∷_}
 use lib.IntN.{ℤ, pos, negsuc}
 use Rattle.meaning.specs.Domain.{Comparison, equal, unequal, less, at-most, greater, at-least, Operation, plus, minus, times}
-use Rattle.meaning.specs.Values.{Value, number, name}
+use Rattle.meaning.specs.Values.{Value, number, name, string}
 use Rattle.meaning.specs.Ascii.{ascii}
 
 pub record Compared : Type 0 where
@@ -18,6 +18,12 @@ numbers c m n b = record { comparison = c; left = number m; right = number n; ho
 
 abbrev names : Comparison → String → String → Bool → Compared
 names c s t b = record { comparison = c; left = name (ascii s); right = name (ascii t); holds = b }
+
+abbrev strings : Comparison → String → String → Bool → Compared
+strings c s t b = record { comparison = c; left = string (ascii s); right = string (ascii t); holds = b }
+
+abbrev kinds : Comparison → Value → Value → Bool → Compared
+kinds c v w b = record { comparison = c; left = v; right = w; holds = b }
 
 -- `negsuc n` is -(n + 1)
 abbrev pub comparisons : List Compared
@@ -49,6 +55,27 @@ comparisons =
     ∷ names greater "a" "a" false
     ∷ names at-least "a" "a" true
     ∷ names at-least "south" "southwest" false
+    ∷ strings equal "a" "a" true
+    ∷ strings equal "a" "a " false
+    ∷ strings less "" "a" true
+    ∷ strings less "a" "a b" true
+    ∷ strings less "a!" "a" false
+    ∷ strings less "aAb" "a\\\"b" true
+    ∷ strings at-most "b" "a" false
+    ∷ strings greater "Z" "a" false
+    ∷ kinds unequal (number (pos 7)) (name (ascii "north")) true
+    ∷ kinds equal (number (pos 7)) (name (ascii "7")) false
+    ∷ kinds less (number (pos 1_000_000_000)) (name (ascii "a")) true
+    ∷ kinds at-most (name (ascii "a")) (number (pos 0)) false
+    ∷ kinds greater (name (ascii "a")) (number (pos 0)) true
+    ∷ kinds at-least (number (pos 0)) (name (ascii "a")) false
+    ∷ kinds equal (name (ascii "a")) (string (ascii "a")) false
+    ∷ kinds unequal (string (ascii "a")) (name (ascii "a")) true
+    ∷ kinds less (name (ascii "z")) (string (ascii "")) true
+    ∷ kinds at-least (name (ascii "z")) (string (ascii "")) false
+    ∷ kinds unequal (number (pos 1)) (string (ascii "1")) true
+    ∷ kinds greater (string (ascii "1")) (number (pos 2)) true
+    ∷ kinds at-most (string (ascii "1")) (number (pos 2)) false
     ∷ []
 
 pub record Operated : Type 0 where

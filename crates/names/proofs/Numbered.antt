@@ -1,4 +1,4 @@
--- Laws of numbering: an answer is the only one, a number's code stands for its name, and a table with room turns no name away.
+-- Laws of numbering: an answer is the only one, a number's codes stand for its name or string, and a table with room turns no text away.
 use mathlib.Core.Path.{_≡_, refl, sym, ap, _∙_}
 use mathlib.Core.Logic.{_⊎_, inl, inr}
 use mathlib.Core.Option.{some}
@@ -7,15 +7,15 @@ use Prim.Native.Nat.{ℕ, _+_, _≤_, _<_}
 use native.Mathlib.Omega.{arith}
 use lib.ListN.{length, getElem?, length-append}
 use Rattle.meaning.specs.Rules.{Bytes}
-use Rattle.meaning.specs.Values.{name}
-use Rattle.codes.specs.Codes.{first-name, Distinct, Coded, as-name}
+use Rattle.meaning.specs.Values.{name, string}
+use Rattle.codes.specs.Codes.{first-name, first-string, quote, Distinct, Coded, as-name, as-string}
 use Rattle.codes.specs.Predicates.{CodedName}
 use Rattle.codes.proofs.Names.{last-at}
 use Rattle.names.specs.declared.Found.{Found}
 use Rattle.names.specs.declared.Found.the-variants.{At, Nothing}
-use Rattle.names.specs.Table.{capacity, count, name-at, names-of}
+use Rattle.names.specs.Table.{most-names, capacity, count, name-at, names-of}
 use Rattle.names.specs.Numbering.{Absent, Finds, Grown, held, added, Interns}
-use Rattle.names.proofs.Firsts.{length-first}
+use Rattle.names.proofs.Firsts.{length-first, first-inside}
 
 -- ---- a name is found at one place only
 
@@ -52,17 +52,26 @@ module _ (names : List Bytes) (n : Bytes) where
   grown-once d _ _ _ j (added p) (held q) = absurd (p j q)
   grown-once d _ _ _ _ (added p) (added q) = (refl, refl)
 
-  module _ (after : List Bytes) (i : ℕ) (g : Grown names n after i) where
-    -- the codes of its number
-    pub grown-coded : Coded after (first-name + i) (name n)
-    grown-coded = as-name i refl (grown-at after i g)
-
-    pub grown-coded-name : CodedName after (i ∷ []) n
-    grown-coded-name = record { place = i; is-place = refl; is-name = grown-at after i g }
+  pub grown-coded-name : (after : List Bytes) (i : ℕ) → Grown names n after i → CodedName after (i ∷ []) n
+  grown-coded-name after i g = record { place = i; is-place = refl; is-name = grown-at after i g }
 
 -- ---- interning
 
 module _ (program output : Bytes) (table : List ℕ) (n : Bytes) where
+  module _ (after : List ℕ) (i : ℕ) (interned : Interns program output table n after (At i)) where
+    stands-at : getElem? (names-of program output after) i ≡ some n
+    stands-at = grown-at (names-of program output table) n (names-of program output after) i (interned .1)
+
+    pub interned-below : i < most-names
+    interned-below = omega (arith, first-inside (name-at program output after) (count after) i n stands-at .0, interned .0 .room)
+
+    -- so that its code as a name is below those of the strings
+    pub interned-name : Coded (names-of program output after) (first-name + i) (name n)
+    interned-name = as-name i refl (omega (arith, interned-below)) stands-at
+
+    pub interned-string : (s : Bytes) → n ≡ quote ∷ s → Coded (names-of program output after) (first-string + i) (string s)
+    interned-string s e = as-string i refl (stands-at ∙ ap some e)
+
   -- a name that has bytes has a number afterwards, where the table has room
   pub numbered : (after : List ℕ) (f : Found) → Interns program output table n after f → (n ≡ [] → ⊥) → length (names-of program output table) < capacity (length table) → (i : ℕ) × (f ≡ At i)
   numbered after (At i) h nonempty room = (i, refl)

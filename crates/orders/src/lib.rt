@@ -1,4 +1,4 @@
-// Whether a rule asks which of two values comes first: then the names need ranks.
+// Whether a rule asks which of two values comes first: then names and strings need ranks.
 use codes::LESS;
 use store::literal_column;
 use store::rule_column;

@@ -1,11 +1,13 @@
--- What may stand behind a token so that it ends there: no letter, digit or `_` behind a word, neither `=` nor `>` behind a comparison.
+-- What may stand behind a token so that it ends there: no letter, digit or `_` behind a word, neither `=` nor `>` behind a comparison; anything
+-- behind a string.
 use mathlib.Core.Path.{_≡_, refl, sym as inv, ap, _∙_}
 use mathlib.Core.Bool.{Bool, true, false, cond, _&&_, _||_, and-false, true≢false}
 use mathlib.Core.List.{List, [], _∷_, _++_, append-assoc}
-use Prim.Native.Nat.{ℕ}
+use Prim.Native.Nat.{ℕ, suc, _+_}
 use native.Mathlib.Omega.{arith}
 use lib.Dec.{eqb}
-use borrow.Author.Tests.{eqb-true}
+use lib.ListN.{length, length-append}
+use borrow.Author.Tests.{eqb-true, ne-eqb}
 use Rattle.tokens.specs.declared.class.Class.{Class}
 use Rattle.tokens.specs.declared.class.Class.the-variants.{Lower, Upper, Digit, Other}
 use Rattle.tokens.specs.declared.run.Run.{Run}
@@ -15,9 +17,11 @@ use Rattle.tokens.specs.Class.{classOf, isWord}
 use Rattle.tokens.specs.Run.{goesOn}
 use Rattle.tokens.specs.Spelling.{singleKind, pairKind, nameKind, every, numberKind, kindFrom, kindOf}
 use Rattle.tokens.specs.Spells.{Starts}
+use Rattle.tokens.specs.Strings.{quote, Quotable, quoted}
+use Rattle.tokens.proofs.Strings.{string-kind, quotable-closing, between-quoted, string-quotable}
 use Rattle.meaning.specs.Domain.{equal, unequal, less, at-most, greater, at-least}
 use Rattle.meaning.specs.Rules.{Bytes}
-use Rattle.grammar.specs.Tokens.{sign, <>, underscore, not, minus, opening, closing, comma, dot, :-, plus, times, Token, name, variable, number, comparison, symbol, stray}
+use Rattle.grammar.specs.Tokens.{sign, <>, underscore, not, minus, opening, closing, comma, dot, :-, plus, times, Token, name, variable, string, number, comparison, symbol, stray}
 use Rattle.grammar.specs.Writing.{symbol-bytes, comparison-bytes, sign-bytes, token-bytes, is-word-symbol, is-word, is-comparison, run-together, blank, written}
 use Rattle.grammar.proofs.Plainer.{All}
 use Rattle.plainform.proofs.Digits.{number-spelled}
@@ -50,10 +54,19 @@ no-number true [] e = absurd (true≢false e)
 no-number true (d ∷ r) e = refl
 no-number false r e = rw e
 
+-- one byte more behind its closing quote, and it is no string
+string-ends : (b : Bytes) → Proper (string b) → (c : ℕ) → kindOf (token-bytes (string b) ++ c ∷ []) ≡ Stray
+unfolding kind-for token-bytes kindOf classOf
+string-ends b s c =
+    let q : Quotable b = rw (between-quoted b) at (string-quotable (quoted b) s) in
+    let n : length ((b ++ quote ∷ []) ++ c ∷ []) ≡ length b + 2 = simp length-append (omega arith) in
+    string-kind ((b ++ quote ∷ []) ++ c ∷ []) (omega arith) ∙ rw (append-assoc b (quote ∷ []) (c ∷ []), quotable-closing q (c ∷ []), ne-eqb (suc (length b)) (length (b ++ quote ∷ c ∷ [])) (λ e. omega (arith, length-append b (quote ∷ c ∷ []))))
+
 pub ends : (t : Token) → Proper t → (c : ℕ) → Behind t c → kindOf (token-bytes t ++ c ∷ []) ≡ Stray
 unfolding kind-for is-word is-word-symbol is-comparison token-bytes symbol-bytes sign-bytes comparison-bytes kindOf classOf singleKind pairKind nameKind every
 ends (name b) s c h = run-ends Lower Word (λ d r e. rw e) c (rw (h .word refl)) b (s .0)
 ends (variable b) s c h = run-ends Upper Word (λ d r e. rw e) c (rw (h .word refl)) b s
+ends (string b) s c h = string-ends b s c
 ends (number n) s c h = run-ends Digit Digits (λ d r e. no-number (eqb d 48) r e) c (rw (h .word refl)) _ (number-spelled n .0)
 ends (comparison (sign equal)) s c h = refl
 ends (comparison (sign unequal)) s c h = refl
@@ -89,6 +102,7 @@ mark-first : (u : Token) → Proper u → is-word u ≡ false → (r : Bytes) �
 unfolding kind-for is-word is-word-symbol token-bytes symbol-bytes sign-bytes comparison-bytes classOf
 mark-first (name b) s h r = absurd (true≢false h)
 mark-first (variable b) s h r = absurd (true≢false h)
+mark-first (string b) s h r = refl
 mark-first (number n) s h r = absurd (true≢false h)
 mark-first (comparison (sign equal)) s h r = refl
 mark-first (comparison (sign unequal)) s h r = refl
@@ -124,6 +138,7 @@ plain-first : (u : Token) → Proper u → is-comparison u ≡ false → (r : By
 unfolding kind-for is-comparison token-bytes symbol-bytes
 plain-first (name b) s h r = no-mark Lower Word refl b (s .0) r
 plain-first (variable b) s h r = no-mark Upper Word refl b s r
+plain-first (string b) s h r = (refl, refl)
 plain-first (number n) s h r = no-mark Digit Digits refl _ (number-spelled n .0) r
 plain-first (comparison q) s h r = absurd (true≢false h)
 plain-first (symbol underscore) s h r = (refl, refl)

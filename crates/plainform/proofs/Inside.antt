@@ -35,7 +35,7 @@ use Rattle.grammar.specs.Trees.{empty, Program}
 use Rattle.grammar.specs.Spelling.{Mark, spell}
 use Rattle.grammar.specs.Writing.{symbol-bytes, token-bytes, is-word-symbol, is-word, run-together, blank, written, Apart}
 use Rattle.grammar.specs.States.{State, atom-wanted, head-behind}
-use Rattle.grammar.specs.Moves.{Move, on-name, on-variable, on-number, on-comparison, on, fire, either, try}
+use Rattle.grammar.specs.Moves.{Move, on-name, on-variable, on-string, on-number, on-comparison, on, fire, either, try}
 use Rattle.grammar.specs.Machine.{moves, step, machine}
 use Rattle.grammar.proofs.Complete.{complete}
 use Rattle.grammar.proofs.Plainer.{All}
@@ -53,6 +53,7 @@ unfolding try either fire
 no-move [] b = refl
 no-move (on-name m k ∷ ms) b = no-move ms b
 no-move (on-variable m k ∷ ms) b = no-move ms b
+no-move (on-string m k ∷ ms) b = no-move ms b
 no-move (on-number m k ∷ ms) b = no-move ms b
 no-move (on-comparison k ∷ ms) b = no-move ms b
 no-move (on m z x ∷ ms) b = no-move ms b

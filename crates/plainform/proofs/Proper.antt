@@ -1,11 +1,12 @@
 -- Tokens that their bytes spell: the bytes of a token are a token of its kind, and are read as that token.
 use mathlib.Core.Path.{_≡_, refl, sym as inv, ap}
 use Rattle.tokens.specs.declared.kind.Kind.{Kind}
-use Rattle.tokens.specs.declared.kind.Kind.the-variants.{Name, Not, Variable, Anonymous, Number, Open, Close, Comma, Dot, If, Minus, Plus, Times, Equal, Unequal, AlsoUnequal, Less, AtMost, Greater, AtLeast, End, Stray}
+use Rattle.tokens.specs.declared.kind.Kind.the-variants.{Name, Not, Variable, Anonymous, Number, Open, Close, Comma, Dot, If, Minus, Plus, Times, Equal, Unequal, AlsoUnequal, Less, AtMost, Greater, AtLeast, End, Stray, String}
 use Rattle.tokens.specs.Spells.{Spells}
+use Rattle.tokens.proofs.Strings.{between-quoted, string-parts}
 use Rattle.meaning.specs.Domain.{Comparison, equal, unequal, less, at-most, greater, at-least}
 use Rattle.meaning.specs.Rules.{Bytes}
-use Rattle.grammar.specs.Tokens.{Sign, sign, <>, Symbol, underscore, not, minus, opening, closing, comma, dot, :-, plus, times, Token, name, variable, number, comparison, symbol, stray}
+use Rattle.grammar.specs.Tokens.{Sign, sign, <>, Symbol, underscore, not, minus, opening, closing, comma, dot, :-, plus, times, Token, name, variable, string, number, comparison, symbol, stray}
 use Rattle.grammar.specs.Writing.{symbol-bytes, comparison-bytes, sign-bytes, token-bytes}
 use Rattle.syntax.specs.Text.{token-of}
 use Rattle.plainform.proofs.Digits.{decimal-digits, number-written}
@@ -38,6 +39,7 @@ sign-kind <> = AlsoUnequal
 unfoldable pub kind-for : Token → Kind
 kind-for (name b) = Name
 kind-for (variable b) = Variable
+kind-for (string b) = String
 kind-for (number n) = Number
 kind-for (comparison r) = sign-kind r
 kind-for (symbol s) = symbol-kind s
@@ -52,6 +54,7 @@ pub token-again : (t : Token) → Proper t → token-of (kind-for t) (token-byte
 unfolding token-of kind-for symbol-kind sign-kind comparison-kind token-bytes
 token-again (name b) h = refl
 token-again (variable b) h = refl
+token-again (string b) h = ap string (between-quoted b)
 token-again (number n) h = ap number (decimal-digits n)
 token-again (comparison (sign equal)) h = refl
 token-again (comparison (sign unequal)) h = refl
@@ -97,6 +100,7 @@ token-says Greater b s = (inv s, refl)
 token-says AtLeast b s = (inv s, refl)
 token-says End b s = absurd s
 token-says Stray b s = absurd s
+token-says String b s = (inv (string-parts b s), refl)
 
 pub says-proper : (kind : Kind) (b : Bytes) → Spells kind b → Proper (token-of kind b)
 says-proper kind b s = let q = token-says kind b s in rw (q .1, q .0) s

@@ -4,7 +4,7 @@ use mathlib.Core.Bool.{Bool, true, false, _&&_, _||_, cond}
 use mathlib.Core.List.{List, [], _∷_, _++_, append-assoc, append-nil}
 use Rattle.meaning.specs.Domain.{equal, unequal, less, at-most, greater, at-least}
 use Rattle.meaning.specs.Rules.{Bytes}
-use Rattle.grammar.specs.Tokens.{sign, <>, underscore, not, minus, opening, closing, comma, dot, :-, plus, times, Token, name, variable, number, comparison, symbol, stray}
+use Rattle.grammar.specs.Tokens.{sign, <>, underscore, not, minus, opening, closing, comma, dot, :-, plus, times, Token, name, variable, string, number, comparison, symbol, stray}
 use Rattle.grammar.specs.Moves.{token-number, symbol-number, sign-number, comparison-number}
 use Rattle.grammar.specs.Writing.{token-bytes, is-word-symbol, is-word, is-comparison, run-together, blank, written}
 use Rattle.plaintokens.specs.Neighbours.{word, compares, runs-together}
@@ -20,6 +20,7 @@ sorted : (t : Token) → Sorted t
 unfolding is-word is-word-symbol is-comparison token-number symbol-number sign-number comparison-number
 sorted (name b) = record { is-a-word = refl; is-compared = refl; not-both = refl }
 sorted (variable b) = record { is-a-word = refl; is-compared = refl; not-both = refl }
+sorted (string b) = record { is-a-word = refl; is-compared = refl; not-both = refl }
 sorted (number n) = record { is-a-word = refl; is-compared = refl; not-both = refl }
 sorted (comparison (sign equal)) = record { is-a-word = refl; is-compared = refl; not-both = refl }
 sorted (comparison (sign unequal)) = record { is-a-word = refl; is-compared = refl; not-both = refl }

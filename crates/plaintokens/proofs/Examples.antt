@@ -2,7 +2,7 @@
 use mathlib.Core.Path.{_≡_, refl}
 use mathlib.Core.List.{List, [], _∷_}
 use Rattle.meaning.specs.Domain.{equal, unequal}
-use Rattle.grammar.specs.Tokens.{sign, <>, minus, opening, closing, dot, :-, Token, name, variable, number, comparison, symbol}
+use Rattle.grammar.specs.Tokens.{sign, <>, minus, opening, closing, dot, :-, Token, name, variable, string, number, comparison, symbol}
 use Rattle.grammar.specs.PlainForm.{plain-sign}
 use Rattle.grammar.specs.Moves.{token-number, symbol-number, sign-number, comparison-number}
 use Rattle.grammar.specs.Writing.{digits, token-bytes, symbol-bytes, sign-bytes, comparison-bytes}
@@ -19,6 +19,11 @@ opened = tt
 operation : plain-tokens (X (number 1 ∷ symbol minus ∷ number 0 ∷ [])) ≡ X (number 1 ∷ symbol minus ∷ number 0 ∷ [])
 unfolding opened
 operation = refl
+
+-- and so does X=""-0
+operation-on-a-string : plain-tokens (X (string [] ∷ symbol minus ∷ number 0 ∷ [])) ≡ X (string [] ∷ symbol minus ∷ number 0 ∷ [])
+unfolding opened
+operation-on-a-string = refl
 
 sign-behind-operation : plain-tokens (X (number 1 ∷ symbol minus ∷ symbol minus ∷ number 0 ∷ [])) ≡ X (number 1 ∷ symbol minus ∷ number 0 ∷ [])
 unfolding opened

@@ -14,7 +14,7 @@ use Rattle.reading.proofs.Lists.{tokens-append}
 use Rattle.meaning.specs.Domain.{Operation, equal, unequal, less, at-most, greater, at-least}
 use Rattle.meaning.specs.Rules.{Bytes}
 use Rattle.grammar.specs.Tokens.{Sign, sign, <>, Symbol, not, minus, opening, closing, comma, dot, :-, Token, comparison, symbol}
-use Rattle.grammar.specs.Trees.{Sequence, empty, _then_, count, Term, name, variable, number, negative, anonymous, Arguments, bare, parentheses, arguments, Atom, atom, Literal, positive, negated, compared, computed, Rule, fact, clause, Program}
+use Rattle.grammar.specs.Trees.{Sequence, empty, _then_, count, Term, name, variable, string, number, negative, anonymous, Arguments, bare, parentheses, arguments, Atom, atom, Literal, positive, negated, compared, computed, Rule, fact, clause, Program}
 use Rattle.grammar.specs.Spelling.{Mark, inside, Spelling, mere, with-commas, spell-term, spell-argument, spell-arguments, spell-signed, spell-atom, spell-operation, spell-compared, spell-literal, spell-nth-literal, spell-head, spell-rule, spell}
 use Rattle.grammar.specs.PlainForm.{each, plain-term, plain-arguments, plain-atom, plain-sign, plain-literal, plain-head, plain-rule, plain-form}
 use Rattle.grammar.specs.Moves.{token-number, symbol-number, sign-number, comparison-number}
@@ -127,6 +127,7 @@ module _ {ground : Bool} where
   unfolding spell-term plain-term token-number symbol-number plain-token tokens plain-behind plain-unless first-kind first-byte token-bytes digits
   term m (name b) = stays _ (λ k ts f. refl) refl refl
   term m (variable u b) = stays _ (λ k ts f. refl) refl refl
+  term m (string b) = stays _ (λ k ts f. refl) refl refl
   term m (number n) = stays _ (λ k ts f. refl) refl refl
   term m (negative zero) = record { on = λ r r′ h k f. rw (f, h 4 refl) }
   term m (negative (suc n)) = record { on = λ r r′ h k f. rw (ne-eqb (getD (digits (suc n) (suc n)) 0 0) 48 (λ e. let z = first-digit (suc n) e in omega arith), and-false, h 4 refl) }
@@ -137,6 +138,7 @@ module _ {ground : Bool} where
   unfolding spell-term tokens first-kind token-number symbol-number
   term-first m (name b) r = refl
   term-first m (variable u b) r = refl
+  term-first m (string b) r = refl
   term-first m (number n) r = refl
   term-first m (negative n) r = refl
   term-first m (anonymous u) r = refl

@@ -18,7 +18,7 @@ use Rattle.tokens.proofs.Spelled.{spells}
 use Rattle.tokens.proofs.Next.{next-found, not-empty}
 use Rattle.reading.specs.Reading.{unplaced}
 use Rattle.meaning.specs.Rules.{Bytes}
-use Rattle.grammar.specs.Tokens.{sign, <>, Token, name, variable, number, comparison, symbol, stray}
+use Rattle.grammar.specs.Tokens.{sign, <>, Token, name, variable, string, number, comparison, symbol, stray}
 use Rattle.grammar.specs.PlainForm.{plain-sign}
 use Rattle.grammar.specs.Moves.{token-number, sign-number}
 use Rattle.grammar.specs.Writing.{comparison-bytes, sign-bytes, token-bytes}
@@ -42,6 +42,7 @@ plain-already : (t : Token) → (token-number t ≡ 15 → ⊥) → plain-token 
 unfolding plain-token plain-sign token-number sign-number
 plain-already (name b) n = refl
 plain-already (variable b) n = refl
+plain-already (string b) n = refl
 plain-already (number k) n = refl
 plain-already (comparison (sign c)) n = refl
 plain-already (comparison <>) n = absurd (n refl)

@@ -8,7 +8,7 @@ use lib.ListN.{length, getD, length-append}
 use Rattle.tokens.specs.Tokens.{part}
 use Rattle.tokens.proofs.Next.{forward}
 use Rattle.meaning.specs.Rules.{Bytes}
-use Rattle.grammar.specs.Tokens.{sign, <>, Token, name, variable, number, comparison, symbol, stray}
+use Rattle.grammar.specs.Tokens.{sign, <>, Token, name, variable, string, number, comparison, symbol, stray}
 use Rattle.grammar.specs.PlainForm.{plain-sign}
 use Rattle.grammar.specs.Moves.{token-number, sign-number, comparison-number}
 use Rattle.grammar.specs.Writing.{token-bytes}
@@ -29,6 +29,7 @@ same-behind : (t : Token) (ts : List Token) → written-behind (token-number (pl
 unfolding plain-token plain-sign token-number sign-number comparison-number written-behind
 same-behind (name b) ts = refl
 same-behind (variable b) ts = refl
+same-behind (string b) ts = refl
 same-behind (number n) ts = refl
 same-behind (comparison (sign c)) ts = refl
 same-behind (comparison <>) [] = refl
@@ -41,6 +42,7 @@ same-before : (last : ℕ) (t : Token) → blank-between last (token-number (pla
 unfolding plain-token plain-sign token-number sign-number comparison-number
 same-before last (name b) = refl
 same-before last (variable b) = refl
+same-before last (string b) = refl
 same-before last (number n) = refl
 same-before last (comparison (sign c)) = refl
 same-before last (comparison <>) = refl

@@ -4,7 +4,7 @@ use mathlib.Core.Bool.{Bool, false, not, _&&_, _||_, cond}
 use mathlib.Core.List.{[], _∷_}
 use Prim.Native.Nat.{ℕ}
 use lib.Dec.{leb, eqb}
-use Rattle.tokens.specs.declared.kind.Kind.the-variants.{Number, Open, Close, Minus, Equal, AtLeast}
+use Rattle.tokens.specs.declared.kind.Kind.the-variants.{Number, Open, Close, Minus, Equal, AtLeast, String}
 use Rattle.tokens.specs.Kind.{kindNumber}
 use Rattle.meaning.specs.Rules.{Bytes}
 
@@ -15,9 +15,9 @@ word kind = leb kind (kindNumber Number)
 abbrev pub compares : ℕ → Bool
 compares kind = leb (kindNumber Equal) kind && leb kind (kindNumber AtLeast)
 
--- a minus behind such a token is an operation: a word, or `)`
+-- a minus behind such a token is an operation: a word, `)`, or a string
 abbrev pub ends-term : ℕ → Bool
-ends-term kind = word kind || eqb kind (kindNumber Close)
+ends-term kind = word kind || (eqb kind (kindNumber Close) || eqb kind (kindNumber String))
 
 -- by the kinds before, here and behind, and the first byte behind: `(` before `)`, `)` behind `(`, and `-` before the number 0, the one whose
 -- first byte is 48, where it is no operation

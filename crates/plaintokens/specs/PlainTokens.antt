@@ -7,7 +7,7 @@ use lib.ListN.{getD}
 use Rattle.tokens.specs.declared.kind.Kind.the-variants.{Dot, End}
 use Rattle.tokens.specs.Kind.{kindNumber}
 use Rattle.meaning.specs.Rules.{Bytes}
-use Rattle.grammar.specs.Tokens.{Token, name, variable, number, comparison, symbol, stray}
+use Rattle.grammar.specs.Tokens.{Token, name, variable, string, number, comparison, symbol, stray}
 use Rattle.grammar.specs.PlainForm.{plain-sign}
 use Rattle.grammar.specs.Moves.{token-number}
 use Rattle.grammar.specs.Writing.{token-bytes}
@@ -17,6 +17,7 @@ use Rattle.plaintokens.specs.Neighbours.{left-out, blank-between}
 unfoldable pub plain-token : Token → Token
 plain-token (name b) = name b
 plain-token (variable b) = variable b
+plain-token (string b) = string b
 plain-token (number n) = number n
 plain-token (comparison r) = comparison (plain-sign r)
 plain-token (symbol s) = symbol s

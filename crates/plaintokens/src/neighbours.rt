@@ -7,15 +7,19 @@ use tokens::kind::EQUAL;
 use tokens::kind::MINUS;
 use tokens::kind::NUMBER;
 use tokens::kind::OPEN;
+use tokens::kind::STRING;
 
-// May a term end with a token of the kind? It is a word or `)`, and a minus behind it is an operation.
+// May a term end with a token of the kind? It is a word, `)` or a string, and a minus behind it is an operation.
 fn ends_term(kind: u8) -> bool
     ensures { λ r. ⌜ r ≡ ends-term kind ⌝ }
 {
     if kind <= NUMBER {
         return true;
     }
-    kind == CLOSE
+    if kind == CLOSE {
+        return true;
+    }
+    kind == STRING
 }
 
 // Is the token left out? By the kinds before, here and behind, and the first byte behind: `(` before `)`, `)` behind `(`, and `-` before the

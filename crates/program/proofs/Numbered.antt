@@ -15,7 +15,7 @@ use Rattle.meaning.specs.Safety.{term-bound, side-bound, atom-bound, literal-bo
 use Rattle.meaning.specs.Domain.{Operation}
 use Rattle.meaning.proofs.Booleans.{and-both}
 use Rattle.grammar.specs.Tokens.{Sign, closing}
-use Rattle.grammar.specs.Trees.{Sequence, empty, _then_, count, Term, name, variable, number, negative, anonymous, Arguments, bare, parentheses, arguments, Atom, atom, Literal, positive, negated, compared, computed, Rule, fact, clause}
+use Rattle.grammar.specs.Trees.{Sequence, empty, _then_, count, Term, name, variable, string, number, negative, anonymous, Arguments, bare, parentheses, arguments, Atom, atom, Literal, positive, negated, compared, computed, Rule, fact, clause}
 use Rattle.grammar.specs.Spelling.{Mark, inside, mere, with-commas, spell-term, spell-argument, spell-arguments, spell-signed, spell-atom, spell-compared, spell-literal, spell-nth-literal}
 use Rattle.grammar.specs.Variables.{Variables, number-of, with-variable, meet-symbol, meet, met}
 use Rattle.grammar.specs.Abstraction.{term-for, terms-for, arguments-for, atom-for, literal-for, literals-for, rule-for}
@@ -62,6 +62,7 @@ module _ {ground : Bool} where
   unfolding met meet meet-symbol spell-term
   grows-term vs m (name b) = omega arith
   grows-term vs m (variable u b) = with-more vs b .0
+  grows-term vs m (string b) = omega arith
   grows-term vs m (number n) = omega arith
   grows-term vs m (negative n) = omega arith
   grows-term vs m (anonymous u) = rw (length-more vs none) (omega arith)
@@ -70,6 +71,7 @@ module _ {ground : Bool} where
   unfolding met meet meet-symbol spell-term term-bound term-for
   term-below vs m (name b) n h = refl
   term-below vs m (variable u b) n h = lt-ltb (number-of b vs) n (omega (arith, with-more vs b .1))
+  term-below vs m (string b) n h = refl
   term-below vs m (number k) n h = refl
   term-below vs m (negative k) n h = refl
   term-below vs m (anonymous u) n h = lt-ltb (length vs) n (omega (arith, length-more vs none))

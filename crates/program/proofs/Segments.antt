@@ -15,7 +15,7 @@ use Rattle.reading.specs.Reading.{Placed, unplaced, seen}
 use Rattle.reading.proofs.Lists.{none-some, some-inj}
 use Rattle.meaning.specs.Rules.{Bytes}
 use Rattle.meaning.specs.Domain.{equal, unequal, less, at-most, greater, at-least}
-use Rattle.grammar.specs.Tokens.{Sign, sign, <>, underscore, not, minus, opening, closing, comma, dot, :-, plus, times, Token, name, variable, number, comparison, symbol, stray}
+use Rattle.grammar.specs.Tokens.{Sign, sign, <>, underscore, not, minus, opening, closing, comma, dot, :-, plus, times, Token, name, variable, string, number, comparison, symbol, stray}
 use Rattle.grammar.specs.Variables.{Variables, number-of, with-variable, meet-symbol, meet}
 use Rattle.grammar.specs.Sizes.{programs}
 use Rattle.grammar.specs.Moves.{symbol-number, comparison-number, sign-number, token-number}
@@ -59,6 +59,7 @@ module _ (vs : Variables) where
   unfolding token-number symbol-number meet meet-symbol
   meeting (name b) = passes refl not-less refl
   meeting (variable b) = variable-meeting b
+  meeting (string b) = passes refl not-less refl
   meeting (number n) = passes refl not-less refl
   meeting (comparison r) = passes (comparison-goes r) not-less refl
   meeting (symbol underscore) = one-more refl (length-more vs none)

@@ -9,7 +9,7 @@ use Rattle.reading.specs.Reading.{_▹_, tokens, unplaced}
 use Rattle.reading.proofs.Lists.{tokens-append}
 use Rattle.meaning.specs.Domain.{Operation}
 use Rattle.grammar.specs.Tokens.{Sign, comma, dot, :-, Token, symbol}
-use Rattle.grammar.specs.Trees.{Sequence, empty, _then_, count, Term, name, variable, number, negative, anonymous, Arguments, bare, parentheses, arguments, Atom, atom, Literal, positive, negated, compared, computed, Rule, fact, clause}
+use Rattle.grammar.specs.Trees.{Sequence, empty, _then_, count, Term, name, variable, string, number, negative, anonymous, Arguments, bare, parentheses, arguments, Atom, atom, Literal, positive, negated, compared, computed, Rule, fact, clause}
 use Rattle.grammar.specs.Spelling.{Mark, inside, Spelling, mere, with-commas, spell-term, spell-argument, spell-arguments, spell-signed, spell-atom, spell-operation, spell-compared, spell-literal, spell-nth-literal, spell-head, spell-rule}
 use Rattle.grammar.specs.Variables.{meet-symbol, meet, met}
 use Rattle.grammar.specs.Moves.{symbol-number, token-number}
@@ -63,6 +63,7 @@ module _ {ground : Bool} where
   unfolding spell-term dots-in tokens token-number symbol-number
   term-dotless m (name b) = refl
   term-dotless m (variable u b) = refl
+  term-dotless m (string b) = refl
   term-dotless m (number n) = refl
   term-dotless m (negative n) = refl
   term-dotless m (anonymous u) = refl

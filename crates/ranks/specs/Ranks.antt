@@ -1,4 +1,4 @@
--- Ranks of names: which of two comes first is seen by two numbers.
+-- Ranks of names, strings among them: which of two comes first is seen by two numbers.
 use mathlib.Core.Path.{_≡_}
 use mathlib.Core.List.{List, []}
 use Prim.Native.Nat.{ℕ, _<_}

@@ -1,4 +1,4 @@
-// Ranks of names: the numbers of the names are sorted by merging, and a name's rank is the place of its number.
+// Ranks of the names of a table, strings among them: their numbers are sorted by merging, and a name's rank is the place of its number.
 use names::bytewise::comes_before;
 ghost use mathlib.Core.Path.{_≡_};
 ghost use mathlib.Core.Bool.{not};

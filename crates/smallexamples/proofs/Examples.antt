@@ -1,4 +1,4 @@
--- T1 to T12: the texts are read as the rules and facts of the meaning's list of the same examples, whose outcomes are settled there
+-- T1 to T12, and the sites that are numbers: the texts are read as the rules and facts of the meaning's list of the same examples, whose outcomes are settled there
 -- (`meaning`, Examples), and each of these outcomes says what is stated of the texts.
 use mathlib.Core.Path.{_≡_, refl, sym as inv, ap}
 use mathlib.Core.Logic.{inl, inr}
@@ -11,9 +11,10 @@ use Rattle.tokens.specs.Place.{newlines, since, line-of, column-of}
 use Rattle.tokens.specs.Class.{classOf}
 use Rattle.tokens.specs.Run.{isBlank, prefixLen}
 use Rattle.tokens.specs.Gap.{startsComment, gap}
+use Rattle.tokens.specs.Strings.{between, longer, closing}
 use Rattle.tokens.specs.Number.{decimalAfter}
 use Rattle.tokens.specs.Spelling.{singleKind, pairKind, nameKind}
-use Rattle.tokens.specs.Token.{markAt, tokenAt, nextToken}
+use Rattle.tokens.specs.Token.{markAt, stringAt, tokenAt, nextToken}
 use Rattle.tokens.specs.Tokens.{tokensUpTo, tokensFrom}
 use Rattle.meaning.specs.Sets.{In, every, any, Each}
 use Rattle.meaning.specs.Rules.{Fact, Rule, predicate}
@@ -37,14 +38,14 @@ use Rattle.report.proofs.Answers.{report-of, out-of-place-of}
 use Rattle.promise.specs.Answer.{Result, positions, says, result}
 use Rattle.promise.specs.Judged.{settles}
 use Rattle.promise.specs.Answered.{rule-part}
-use Rattle.smallexamples.specs.Examples.{Example, Holds, examples}
+use Rattle.smallexamples.specs.Examples.{Example, Holds, examples, ordered}
 use Rattle.smallexamples.proofs.Unclashing.{unlike, apart}
 use Rattle.smallexamples.proofs.Bound.{every-below, all-bound}
 use Rattle.smallexamples.proofs.Texts.{fits, tree-of, tree-in, program-rules, is-answer, reports-facts, is-nothing, line-facts, output-facts, program-taken, output-taken, answered-with-room, answered-without-room}
 
 -- to unfold this is to unfold all that reading a text computes with
 read-opened : Unit {0}
-unfolding classOf isBlank prefixLen startsComment gap decimalAfter singleKind pairKind nameKind markAt tokenAt nextToken tokensUpTo tokensFrom every any predicate same-number same-bytes same-value in-term in-atom positives in-positives term-bound side-bound when else gain-left gain next-gain with scan equations bound-after bound same-sign same-predicate same-arguments same-fact then last-bytes ascii value-for values-for argument-values-for fact-for facts-for computing token-of head-variables rule-variables linesAt startsWith report-of out-of-place-of unlike apart every-below all-bound fits tree-of tree-in program-rules is-answer reports-facts is-nothing line-facts output-facts
+unfolding classOf isBlank prefixLen startsComment gap between longer closing decimalAfter singleKind pairKind nameKind markAt stringAt tokenAt nextToken tokensUpTo tokensFrom every any predicate same-number same-bytes same-value in-term in-atom positives in-positives term-bound side-bound when else gain-left gain next-gain with scan equations bound-after bound same-sign same-predicate same-arguments same-fact then last-bytes ascii value-for values-for argument-values-for fact-for facts-for computing token-of head-variables rule-variables linesAt startsWith report-of out-of-place-of unlike apart every-below all-bound fits tree-of tree-in program-rules is-answer reports-facts is-nothing line-facts output-facts
 read-opened = tt
 
 -- ---- the texts are read as the rules and facts
@@ -97,3 +98,19 @@ all-hold (x ∷ es) (m ∷ ms) t c s settled e (inr i) = all-hold es ms (tail-eq
 
 pub twelve : (e : Example) → In e examples → Holds e
 twelve e i = all-hold examples meant.examples read-as-meant counted say settled.twelve e i
+
+-- ---- and so do those of one order
+
+ordered-as-meant : map from-texts ordered ≡ map as-meant meant.ordered
+unfolding read-opened
+ordered-as-meant = refl
+
+ordered-counted : map (λ (e : Example). e .facts) ordered ≡ map (λ (m : meant.Example). length (m .candidate)) meant.ordered
+ordered-counted = refl
+
+ordered-say : Each Says ordered meant.ordered
+unfolding read-opened token-number sign-number comparison-number behind-dots dot-end to-dot sentence positions says result settles newlines since line-of column-of
+ordered-say = (refl, (refl, (refl, tt)))
+
+pub one-order : (e : Example) → In e ordered → Holds e
+one-order e i = all-hold ordered meant.ordered ordered-as-meant ordered-counted ordered-say settled.one-order e i

@@ -1,4 +1,5 @@
--- Document 01's small examples T1 to T12, as texts: a program, what the solver printed, and the answer that the paper states.
+-- Document 01's small examples T1 to T12, and document 02's sites that are numbers, as texts: a program, what the solver printed, and the answer
+-- that the paper states.
 use Prim.Native.Nat.{ℕ, _≤_, _<_}
 use Prim.Native.String.{String}
 use mathlib.Core.List.{List, [], _∷_, _++_}
@@ -61,4 +62,14 @@ examples =
     ∷ example "p(X):-q(Y),X=Y+1.q(a)." "q(a)." 1 (accepted 1 1) (1 ∷ [])
     ∷ example "p(X):-q(Y),X=Y+1.q(999999999)." "q(999999999). p(1000000000)." 2 (accepted 2 2) (1 ∷ 2 ∷ [])
     ∷ example "p(X):-q(Y),X=Y+1.q(1000000000)." "q(1000000000)." 1 (refused 8 (in-text program (record { start = 0; len = 17; line = 1; column = 1 }))) []
+    ∷ []
+
+abbrev away : String
+away = "at(u1,7).away(U):-at(U,S),S!=north."
+
+abbrev pub ordered : List Example
+ordered =
+    example away "at(u1,7). away(u1)." 2 (accepted 2 2) (1 ∷ 2 ∷ [])
+    ∷ example away "at(u1,7)." 1 (unsatisfied 2 (1 ∷ [])) []
+    ∷ example "q(7).q(b).q(\"b\").q(\"b c\").p(X):-q(X),7<X,X<\"b c\"." "q(7). q(b). q(\"b\"). q(\"b c\"). p(b). p(\"b\")." 6 (accepted 6 2) (1 ∷ 1 ∷ 1 ∷ 1 ∷ 2 ∷ 2 ∷ [])
     ∷ []

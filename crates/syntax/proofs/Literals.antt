@@ -1,6 +1,7 @@
 -- A literal, by the tests that lead to what is read.
 use mathlib.Core.Path.{_≡_, refl, sym as inv, _∙_}
 use mathlib.Core.Bool.{Bool, true, false, _&&_, false≢true}
+use mathlib.Core.Logic.{_⊎_}
 use mathlib.Core.Option.{some}
 use mathlib.Core.List.{List}
 use Prim.Native.Nat.{ℕ, suc, _≤_, _<_}
@@ -74,8 +75,8 @@ pub minus-on : {over : Bool} (text : Bytes) (at : ℕ) (t : TokenRead) → t ≡
 unfolding token-of too-big too-long too-many-variables is-underscore meet meet-symbol token-number symbol-number
 minus-on text at t et v ek o h = on-kind false text at t et 10 ek (λ z. omega arith) (wants (wanted h)) v v (record { mark = mark h; state = atom-minus (literal-in (h .body)) }) (minus-step (part text (t .place)) h) (fault-none _ _ _ _ refl refl (h .size ∙ o) refl) (meets-none text (token-by 10 (part text (t .place))) (t .place) v refl refl)
 
--- a variable, `_` or a number is taken as a left term
-pub left-on : {over : Bool} (text : Bytes) (at : ℕ) (t : TokenRead) → t ≡ tokenRead false text at → (v : List Place) → (t .kind ≡ 0 → ⊥) → (t .kind ≡ 1 → ⊥) → t .kind ≤ 4 → (h : LiteralPlace over) → from false text (wants (wanted h)) v at ≡ from false text (wants (term-wanted (left-in (h .body)))) v at
+-- a variable, `_`, a number or a string is taken as a left term
+pub left-on : {over : Bool} (text : Bytes) (at : ℕ) (t : TokenRead) → t ≡ tokenRead false text at → (v : List Place) → (t .kind ≡ 0 → ⊥) → (t .kind ≡ 1 → ⊥) → (t .kind ≤ 4) ⊎ (t .kind ≡ 22) → (h : LiteralPlace over) → from false text (wants (wanted h)) v at ≡ from false text (wants (term-wanted (left-in (h .body)))) v at
 unfolding step finished finished-atom
 left-on text at t et v a b l h = same-token false text at t et (wants (wanted h)) (wants (term-wanted (left-in (h .body)))) v (λ n. left-same (h .body) _ (t .kind) (number-here false text at t et n) (omega arith) l) refl
 
@@ -139,11 +140,11 @@ module _ (over : Bool) (text : Bytes) (at : ℕ) (t : TokenRead) (et : t ≡ tok
   unfolding token-of too-big too-long too-many-variables is-underscore meet meet-symbol token-number symbol-number
   minus-goes {T = T} ek o keeps g = fills-as (literal-in-body over) over at (λ x. x) (λ h. h .body) (λ q. o) (minus-on text at t et v ek o) (λ h x. refl) (λ vs x. refl) T (begun 10 ek (λ z. omega arith)) (λ vs x l s. keeps _ (begun 10 ek (λ z. omega arith)) l s) g
 
-  pub literal-wrong : {v′ : List Place} {S : Literal Value → Type 0} → (t .kind ≡ 0 → ⊥) → (t .kind ≡ 10 → ⊥) → 4 < t .kind → Fills (literal-in-body over) over text at v (halted 2 (t .place)) v′ S
+  pub literal-wrong : {v′ : List Place} {S : Literal Value → Type 0} → (t .kind ≡ 0 → ⊥) → (t .kind ≡ 10 → ⊥) → 4 < t .kind → (t .kind ≡ 22 → ⊥) → Fills (literal-in-body over) over text at v (halted 2 (t .place)) v′ S
   unfolding moves else-wanted try-number fire-number either when symbol-number finished finished-atom
-  literal-wrong a b l = stopped (omega arith) (λ h. wrong-token false text at t et (wants (wanted h)) v (rw (ne-eqb (t .kind) 0 a, ne-eqb (t .kind) 10 b, ne-eqb (t .kind) 2 (λ z. omega arith), ne-eqb (t .kind) 4 (λ z. omega arith), ne-eqb (t .kind) 3 (λ z. omega arith), ne-eqb (t .kind) 1 (λ z. omega arith))) (λ z. refl))
+  literal-wrong a b l s = stopped (omega arith) (λ h. wrong-token false text at t et (wants (wanted h)) v (rw (ne-eqb (t .kind) 0 a, ne-eqb (t .kind) 10 b, ne-eqb (t .kind) 2 (λ z. omega arith), ne-eqb (t .kind) 22 s, ne-eqb (t .kind) 4 (λ z. omega arith), ne-eqb (t .kind) 3 (λ z. omega arith), ne-eqb (t .kind) 1 (λ z. omega arith))) (λ z. refl))
 
-  -- a variable, `_` or a number: a comparison
-  pub literal-compared : {w r : Progress} {v₁ v′ : List Place} {S₁ : Term Value → Type 0} {T : Term Value → Literal Value → Type 0} {S : Literal Value → Type 0} → (t .kind ≡ 0 → ⊥) → (t .kind ≡ 1 → ⊥) → t .kind ≤ 4 → Fills (term-in false over) over text at v w v₁ S₁ → ((w .code ≡ 0 → ⊥) → (r .code ≡ w .code) × (r .place ≡ w .place)) → (w .code ≡ 0 → (a : Term Value) → S₁ a → Fills (side-in a) false text (w .place .start) v₁ r v′ (T a)) → ((a : Term Value) (l : Literal Value) → at ≤ w .place .start → w .place .start ≤ r .place .start → S₁ a → T a l → S l) → Fills (literal-in-body over) over text at v r v′ S
+  -- a variable, `_`, a number or a string: a comparison
+  pub literal-compared : {w r : Progress} {v₁ v′ : List Place} {S₁ : Term Value → Type 0} {T : Term Value → Literal Value → Type 0} {S : Literal Value → Type 0} → (t .kind ≡ 0 → ⊥) → (t .kind ≡ 1 → ⊥) → (t .kind ≤ 4) ⊎ (t .kind ≡ 22) → Fills (term-in false over) over text at v w v₁ S₁ → ((w .code ≡ 0 → ⊥) → (r .code ≡ w .code) × (r .place ≡ w .place)) → (w .code ≡ 0 → (a : Term Value) → S₁ a → Fills (side-in a) false text (w .place .start) v₁ r v′ (T a)) → ((a : Term Value) (l : Literal Value) → at ≤ w .place .start → w .place .start ≤ r .place .start → S₁ a → T a l → S l) → Fills (literal-in-body over) over text at v r v′ S
   unfolding step finished finished-atom term-mark atom-mark
   literal-compared {S₁ = S₁} a b l g = left-then-side (λ (h : LiteralPlace over). wants (wanted h)) (λ h. h .body) over text at v (fills-as _ over at (λ x. x) (λ h. record { context = left-in (h .body); size = h .size }) (λ o. o) (left-on text at t et v a b l) (λ h x. refl) (λ vs x. refl) S₁ (omega arith) (λ vs x l s. s) g)

@@ -3,14 +3,16 @@ use mathlib.Core.Path.{_≡_, refl, sym as inv, _∙_}
 use mathlib.Core.Bool.{Bool, true, false}
 use mathlib.Core.Option.{none, some}
 use mathlib.Core.List.{List, [], _∷_, _++_, map}
-use Prim.Native.Nat.{ℕ, suc, _≤_, _<_}
+use Prim.Native.Nat.{ℕ, suc, _-_, _≤_, _<_}
 use native.Mathlib.Omega.{arith}
-use lib.Dec.{leb}
+use lib.Dec.{leb, ltb}
 use lib.ListN.{length}
 use borrow.Author.Tests.{ne-eqb, lt-ltb, le-ltb}
 use Rattle.tokens.specs.declared.place.Place.{Place}
+use Rattle.tokens.specs.Strings.{between}
 use Rattle.tokens.specs.Number.{capped, decimal}
 use Rattle.tokens.specs.Tokens.{part}
+use Rattle.tokens.proofs.Strings.{between-length}
 use Rattle.reading.specs.Reading.{_▹_}
 use Rattle.tokens.specs.Place.{past}
 use Rattle.meaning.specs.Rules.{Bytes, Term, constant, variable}
@@ -20,7 +22,7 @@ use Rattle.grammar.specs.Trees.{Free, Term as Tree}
 use Rattle.grammar.specs.Spelling.{Mark, inside, spell-term}
 use Rattle.grammar.specs.Variables.{Variables as Names, with-variable, meet-symbol, meet, met}
 use Rattle.grammar.specs.Abstraction.{term-for}
-use Rattle.grammar.specs.Sizes.{greatest-number, too-big, too-long, too-many, is-underscore, too-many-variables}
+use Rattle.grammar.specs.Sizes.{greatest-number, most-bytes, too-big, too-long, too-many, is-underscore, too-many-variables}
 use Rattle.grammar.specs.States.{State, TermContext, term-wanted, term-minus, term-read, term-mark}
 use Rattle.grammar.specs.Moves.{on-variable, on, free-moves, symbol-number, token-number, when, fire, either, try}
 use Rattle.grammar.specs.Machine.{a-term, moves, step, finished}
@@ -30,7 +32,7 @@ use Rattle.syntax.specs.declared.token.Progress.{Progress}
 use Rattle.syntax.specs.declared.token.TokenRead.{TokenRead}
 use Rattle.syntax.specs.Text.{token-of, tokenRead, next-of}
 use Rattle.syntax.specs.Variables.{variables-of, Fits, first-among}
-use Rattle.syntax.specs.Ahead.{wants, if-first, from}
+use Rattle.syntax.specs.Ahead.{wants, ends-rule, if-first, from}
 use Rattle.syntax.specs.Fills.{Production, going, halted, Fills, read, stopped}
 use Rattle.syntax.specs.Terms.{TermPlace, term-in, negative-in, signed, wordCode}
 use Rattle.syntax.proofs.Tokens.{token-by, token-here, past-here, forward, part-length, spelled-here}
@@ -81,6 +83,16 @@ module _ {ground : Bool} {H : Type 0} (pre : H → State ground) (place : H → 
         let c = capped-small n q in
         term-goes pre place mark text at t et over v 4 ek (λ z. omega arith) (λ z. omega arith) (mk n) (λ h. steps h _) o (λ h. fault-none _ _ _ _ (c .1) refl (sizes h ∙ o) refl) fits (meets-none text (number n) (t .place) v refl refl) (names _ _) (rw (means (variables-of text v) n, ← (c .0)) s)
 
+-- a token that is a constant by itself, and so long
+record Constant (ground : Bool) (u : Token) (x : Tree ground) (len : ℕ) : Type 0 where
+  steps : (h : TermContext ground) → step (term-wanted h) u ≡ some (record { mark = term-mark h; state = term-read h x })
+  small : too-big u ≡ false
+  sized : too-long u ≡ ltb most-bytes len
+  no-variable : (vs : Names) → too-many-variables vs u ≡ false
+  no-dot : ends-rule u ≡ false
+  meets-none : (vs : Names) → meet vs u ≡ vs
+  met-none : (vs : Names) → met vs (spell-term inside x) ≡ vs
+
 module _ (ground over : Bool) (text : Bytes) (at : ℕ) (t : TokenRead) (et : t ≡ tokenRead ground text at) (v : List Place) where
   abbrev before : TermPlace ground over → State ground
   before h = term-wanted (h .context)
@@ -124,22 +136,40 @@ module _ (ground over : Bool) (text : Bytes) (at : ℕ) (t : TokenRead) (et : t 
   unfolding moves try-number fire-number either when finished
   negative-wrong ne = stopped (omega arith) (λ h. wrong-token ground text at t et (wants (term-minus h)) v (rw (ne-eqb (t .kind) 4 ne)) (λ e. refl))
 
-  -- ---- a name
+  -- ---- a constant of one token, so long: a name, or a string
+
+  module _ (k : ℕ) (ek : t .kind ≡ k) (real : k ≡ 20 → ⊥) (known : k ≡ 21 → ⊥) (x : Tree ground) (len : ℕ) (code : ℕ) (ec : code ≡ wordCode len over) (w : Constant ground (token-by k (part text (t .place))) x len) where
+    constant-stops : {v′ : List Place} {S : Term Value → Type 0} → (code ≡ 0 → ⊥) → Fills (term-in ground over) over text at v (halted code (t .place)) v′ S
+    constant-stops n = term-stops before (λ h. h .context) mark text at t et over v k ek real (λ h. term-read (h .context) x) (λ h. w .steps (h .context)) code (omega (arith, word-four len over code ec n)) (λ h. word-fault len over code ec _ _ _ _ (w .small) (w .sized) (h .size) n)
+
+    constant-goes : {S : Term Value → Type 0} → code ≡ 0 → Fits v → S (term-for (variables-of text v) x) → Fills (term-in ground over) over text at v (going (past (t .place))) v S
+    constant-goes z fits s =
+        let k′ = word-kept len over code ec z in
+        term-goes before (λ h. h .context) mark text at t et over v k ek real known x (λ h. w .steps (h .context)) (k′ .1) (λ h. fault-none _ _ _ _ (w .small) (w .sized ∙ k′ .0) (h .size ∙ k′ .1) (w .no-variable _)) fits (meets-none text (token-by k (part text (t .place))) (t .place) v (w .no-dot) (w .meets-none _)) (w .met-none _) s
 
   module _ (ek : t .kind ≡ 0) (code : ℕ) (ec : code ≡ wordCode (t .place .len) over) where
-    name-step : (h : TermPlace ground over) → step (before h) (token-by 0 (part text (t .place))) ≡ some (record { mark = mark h; state = term-read (h .context) (Tree.name (part text (t .place))) })
-    unfolding step moves a-term try fire either token-of
-    name-step h = refl
+    is-name : Constant ground (token-by 0 (part text (t .place))) (Tree.name (part text (t .place))) (t .place .len)
+    unfolding step moves a-term try fire either token-of too-big too-long too-many-variables term-for met meet spell-term token-number
+    is-name = record { steps = λ h. refl; small = refl; sized = rw (part-length ground text at t et); no-variable = λ vs. refl; no-dot = refl; meets-none = λ vs. refl; met-none = λ vs. refl }
 
     pub name-stops : {v′ : List Place} {S : Term Value → Type 0} → (code ≡ 0 → ⊥) → Fills (term-in ground over) over text at v (halted code (t .place)) v′ S
-    unfolding token-of too-big too-long
-    name-stops n = term-stops before (λ h. h .context) mark text at t et over v 0 ek (λ z. omega arith) (λ h. term-read (h .context) (Tree.name (part text (t .place)))) name-step code (omega (arith, word-four (t .place .len) over code ec n)) (λ h. word-fault (t .place .len) over code ec _ _ _ _ refl (rw (part-length ground text at t et)) (h .size) n)
+    name-stops = constant-stops 0 ek (λ z. omega arith) (λ z. omega arith) (Tree.name (part text (t .place))) (t .place .len) code ec is-name
 
     pub name-goes : {S : Term Value → Type 0} → code ≡ 0 → Fits v → S (constant (Value.name (part text (t .place)))) → Fills (term-in ground over) over text at v (going (past (t .place))) v S
-    unfolding token-of too-big too-long too-many-variables term-for met meet spell-term token-number
-    name-goes z fits s =
-        let k = word-kept (t .place .len) over code ec z in
-        term-goes before (λ h. h .context) mark text at t et over v 0 ek (λ q. omega arith) (λ z. omega arith) (Tree.name (part text (t .place))) name-step (k .1) (λ h. fault-none _ _ _ _ refl (rw (part-length ground text at t et) (k .0)) (h .size ∙ k .1) refl) fits (meets-none text (Token.name (part text (t .place))) (t .place) v refl refl) refl s
+    unfolding term-for
+    name-goes = constant-goes 0 ek (λ z. omega arith) (λ z. omega arith) (Tree.name (part text (t .place))) (t .place .len) code ec is-name
+
+  module _ (ek : t .kind ≡ 22) (code : ℕ) (ec : code ≡ wordCode (t .place .len - 2) over) where
+    is-string : Constant ground (token-by 22 (part text (t .place))) (Tree.string (between (part text (t .place)))) (t .place .len - 2)
+    unfolding step moves a-term try fire either token-of too-big too-long too-many-variables term-for met meet spell-term token-number
+    is-string = record { steps = λ h. refl; small = refl; sized = rw (between-length (part text (t .place)), part-length ground text at t et); no-variable = λ vs. refl; no-dot = refl; meets-none = λ vs. refl; met-none = λ vs. refl }
+
+    pub string-stops : {v′ : List Place} {S : Term Value → Type 0} → (code ≡ 0 → ⊥) → Fills (term-in ground over) over text at v (halted code (t .place)) v′ S
+    string-stops = constant-stops 22 ek (λ z. omega arith) (λ z. omega arith) (Tree.string (between (part text (t .place)))) (t .place .len - 2) code ec is-string
+
+    pub string-goes : {S : Term Value → Type 0} → code ≡ 0 → Fits v → S (constant (Value.string (between (part text (t .place))))) → Fills (term-in ground over) over text at v (going (past (t .place))) v S
+    unfolding term-for
+    string-goes = constant-goes 22 ek (λ z. omega arith) (λ z. omega arith) (Tree.string (between (part text (t .place)))) (t .place .len - 2) code ec is-string
 
   -- ---- a minus
 
@@ -162,17 +192,17 @@ module _ (ground over : Bool) (text : Bytes) (at : ℕ) (t : TokenRead) (et : t 
 
   -- ---- no term: a facts line has no variables
 
-  module _ (a : t .kind ≡ 0 → ⊥) (b : t .kind ≡ 4 → ⊥) (c : t .kind ≡ 10 → ⊥) where
+  module _ (a : t .kind ≡ 0 → ⊥) (s : t .kind ≡ 22 → ⊥) (b : t .kind ≡ 4 → ⊥) (c : t .kind ≡ 10 → ⊥) where
     pub ground-wrong : {v′ : List Place} {S : Term Value → Type 0} → ground ≡ true → Fills (term-in ground over) over text at v (halted 2 (t .place)) v′ S
     unfolding moves a-term try-number fire-number either when finished symbol-number
-    ground-wrong g = stopped (omega arith) (λ h. wrong-token ground text at t et (wants (before h)) v (rw (ne-eqb (t .kind) 0 a, ne-eqb (t .kind) 4 b, ne-eqb (t .kind) 10 c) (denied (h .context))) (λ e. refl))
+    ground-wrong g = stopped (omega arith) (λ h. wrong-token ground text at t et (wants (before h)) v (rw (ne-eqb (t .kind) 0 a, ne-eqb (t .kind) 22 s, ne-eqb (t .kind) 4 b, ne-eqb (t .kind) 10 c) (denied (h .context))) (λ e. refl))
       where
         denied : (h : TermContext ground) → try-number (free-moves ground (λ w. on-variable (term-mark h) (λ b′. term-read h (Tree.variable w b′)) ∷ on (term-mark h) underscore (term-read h (Tree.anonymous w)) ∷ [])) (t .kind) (token-here ground text at t et) ≡ none
         denied h = rw (free-denied ground _ g)
 
     pub free-wrong : {v′ : List Place} {S : Term Value → Type 0} → ground ≡ false → (t .kind ≡ 2 → ⊥) → (t .kind ≡ 3 → ⊥) → Fills (term-in ground over) over text at v (halted 2 (t .place)) v′ S
     unfolding moves a-term try-number fire-number either when finished symbol-number
-    free-wrong g d e = stopped (omega arith) (λ h. wrong-token ground text at t et (wants (before h)) v (rw (ne-eqb (t .kind) 0 a, ne-eqb (t .kind) 4 b, ne-eqb (t .kind) 10 c) (given (h .context))) (λ q. refl))
+    free-wrong g d e = stopped (omega arith) (λ h. wrong-token ground text at t et (wants (before h)) v (rw (ne-eqb (t .kind) 0 a, ne-eqb (t .kind) 22 s, ne-eqb (t .kind) 4 b, ne-eqb (t .kind) 10 c) (given (h .context))) (λ q. refl))
       where
         given : (h : TermContext ground) → try-number (free-moves ground (λ w. on-variable (term-mark h) (λ b′. term-read h (Tree.variable w b′)) ∷ on (term-mark h) underscore (term-read h (Tree.anonymous w)) ∷ [])) (t .kind) (token-here ground text at t et) ≡ none
         given h = rw (free-given ground (λ w. on-variable (term-mark h) (λ b′. term-read h (Tree.variable w b′)) ∷ on (term-mark h) underscore (term-read h (Tree.anonymous w)) ∷ []) (free g), ne-eqb (t .kind) 2 d, ne-eqb (t .kind) 3 e)

@@ -1,7 +1,9 @@
 // The numbers of refusal that a token gets, and that of a word.
 ghost use mathlib.Core.Path.{_≡_};
+ghost use Prim.Native.Nat.{_-_, _≤_};
 ghost use Rattle.syntax.specs.Terms.{wordCode};
 use tokens::place::Place;
+use tokens::place::with_len;
 use tokens::sizes::MOST_NAME;
 
 // A token that the grammar can't have there.
@@ -24,4 +26,12 @@ pub fn word_code(place: Place, over: bool) -> u8
         return OVER;
     }
     0
+}
+
+// .. where a string has, without its two quotes.
+pub fn string_code(place: Place, over: bool) -> u8
+    requires { ⌜ 2 ≤ place .len ⌝ }
+    ensures { λ r. ⌜ r ≡ wordCode (place .len - 2) over ⌝ }
+{
+    word_code(with_len(place, place.len - 2), over)
 }

@@ -5,21 +5,27 @@ use mathlib.Core.List.{List, [], _∷_, _++_, map}
 use Prim.Native.Nat.{ℕ, zero, suc, _+_, _-_, _≤_, _<_}
 use native.Mathlib.Omega.{arith}
 use lib.Dec.{leb}
-use lib.ListN.{length}
+use lib.ListN.{length, take, drop}
+use lib.Seq.{take-take}
 use borrow.Author.Tests.{leb-true, lt-leb, le-leb, ne-eqb}
 use Rattle.tokens.specs.declared.place.Place.{Place}
-use Rattle.tokens.specs.Kind.{kindNumber, isEnd}
+use Rattle.tokens.specs.declared.kind.Kind.the-variants.{String}
+use Rattle.tokens.specs.Kind.{kindNumber, isEnd, isStray}
+use Rattle.tokens.specs.Spelling.{kindOf}
 use Rattle.tokens.specs.Number.{capped, decimal}
-use Rattle.tokens.specs.Place.{past}
+use Rattle.tokens.specs.Strings.{quote, IsString, between}
+use Rattle.tokens.specs.Place.{past, with-len}
 use Rattle.tokens.specs.Places.{places-in, with-place}
 use Rattle.tokens.specs.Token.{nextToken}
 use Rattle.tokens.specs.Tokens.{part}
+use Rattle.tokens.proofs.Strings.{string-long, string-opened}
+use Rattle.tokens.proofs.Spelled.{spells}
 use Rattle.tokens.proofs.Next.{not-empty}
 use Rattle.tokens.proofs.PlaceTables.{places-length, places-more, stands-storable}
 use Rattle.meaning.specs.Rules.{Bytes}
 use Rattle.meaning.specs.Values.{number, in-range}
 use Rattle.grammar.specs.Sizes.{greatest-number}
-use Rattle.codes.specs.Codes.{first-name, number-code}
+use Rattle.codes.specs.Codes.{first-name, first-string, number-code}
 use Rattle.names.specs.declared.Found.the-variants.{At}
 use Rattle.names.specs.Numbering.{Interns}
 use Rattle.syntax.specs.declared.token.TokenRead.{TokenRead}
@@ -27,10 +33,11 @@ use Rattle.syntax.specs.Text.{tokenRead, next-of}
 use Rattle.syntax.specs.Variables.{Fits, first-among}
 use Rattle.syntax.specs.Fills.{Fills, read, stopped}
 use Rattle.syntax.specs.Terms.{term-in, signed, wordCode}
-use Rattle.syntax.proofs.Tokens.{place-within, place-stands, part-length, forward}
+use Rattle.syntax.proofs.Tokens.{place-within, place-stands, part-length, forward, spelled-here}
 use Rattle.syntax.proofs.Terms as laws
+use Rattle.rows.specs.Coding.{Codes}
 use Rattle.rows.proofs.Growth.{grows-none}
-use Rattle.rows.proofs.Terms.{coded-number-term, coded-variable-term, name-coded}
+use Rattle.rows.proofs.Terms.{coded-number-term, coded-variable-term, name-coded, string-coded}
 use Rattle.terms.specs.declared.cursor.Cursor.{Cursor}
 use Rattle.terms.specs.declared.term.TermRead.{TermRead}
 use Rattle.terms.specs.Cursors.{variables-size, ReadyCursor, met-before}
@@ -98,6 +105,27 @@ name-filled ground text at t et ek h =
     let z : length (part text (t .place)) ≡ 0 = ap length h in
     omega arith
 
+-- a string: it has two quotes, and without the closing one it is the opening one and the bytes between
+module _ (ground : Bool) (text : Bytes) (at : ℕ) (t : TokenRead) (et : t ≡ tokenRead ground text at) (ek : t .kind ≡ 22) where
+  is-string : IsString (part text (t .place))
+  is-string =
+      let k : kindOf (part text (t .place)) ≡ String = rw ek at (spelled-here ground text at t et (λ q. omega arith)) in
+      rw k at (spells (part text (t .place)) (ap isStray k))
+
+  pub string-quotes : 2 ≤ t .place .len
+  string-quotes = omega (arith, string-long (part text (t .place)) is-string, part-length ground text at t et)
+
+  string-opened-here : part text (with-len (t .place) (t .place .len - 1)) ≡ quote ∷ between (part text (t .place))
+  string-opened-here =
+      inv (take-take (t .place .len - 1) (t .place .len) (drop (t .place .start) text) (omega arith))
+      ∙ ap (λ (n : ℕ). take (n - 1) (part text (t .place))) (inv (part-length ground text at t et))
+      ∙ string-opened (part text (t .place)) is-string
+
+  pub opened-filled : part text (with-len (t .place) (t .place .len - 1)) ≡ [] → ⊥
+  opened-filled h =
+      let z : length (quote ∷ between (part text (t .place))) ≡ 0 = ap length (inv string-opened-here ∙ h) in
+      omega arith
+
 -- ---- a variable, in a program
 
 module _ (over : Bool) (text : Bytes) (at : ℕ) (t : TokenRead) (et : t ≡ tokenRead false text at) (variables : List ℕ) (met : ℕ) (few : met ≤ 16) (r : TermRead) where
@@ -141,7 +169,7 @@ module _ (over : Bool) (text : Bytes) (at : ℕ) (t : TokenRead) (et : t ≡ tok
 pub puttable : (program output text : Bytes) (names variables : List ℕ) (k : Cursor) → ReadyCursor program output text names variables k → (t : TokenRead) → t ≡ tokenRead (k .ground) text (k .at .start) → Puttable variables t (k .met)
 puttable program output text names variables k ready t et = let w = place-within (k .ground) text (k .at .start) t et in let h = ready .short in record { few = ready .few; long = ready .long; fits = stands-storable text (t .place) (place-stands (k .ground) text (k .at .start) t et) w (ready .short) }
 
--- a term that is no name
+-- a term that is no name and no string
 module _ (text : Bytes) (variables : List ℕ) (k : Cursor) (few : k .met ≤ 16) (t : TokenRead) (et : t ≡ tokenRead (k .ground) text (k .at .start)) (r : TermRead) where
   abbrev Reads : List ℕ → Type 0
   Reads variables′ = ReadsNameless (k .ground) (k .over) text (k .at .start) variables (k .met) r variables′
@@ -177,23 +205,36 @@ module _ (text : Bytes) (variables : List ℕ) (k : Cursor) (few : k .met ≤ 16
   pub minus-over : (variables′ : List ℕ) → t .kind ≡ 10 → k .over ≡ true → r ≡ stoppedTerm 4 (t .place) (k .met) → Reads variables′
   minus-over variables′ ek o er = rw er (laws.minus-over (k .ground) (k .over) text (k .at .start) t et vs ek o)
 
-  module _ (variables′ : List ℕ) (a : t .kind ≡ 0 → ⊥) (b : t .kind ≡ 4 → ⊥) (c : t .kind ≡ 10 → ⊥) (er : r ≡ stoppedTerm 2 (t .place) (k .met)) where
+  module _ (variables′ : List ℕ) (a : t .kind ≡ 0 → ⊥) (s : t .kind ≡ 22 → ⊥) (b : t .kind ≡ 4 → ⊥) (c : t .kind ≡ 10 → ⊥) (er : r ≡ stoppedTerm 2 (t .place) (k .met)) where
     pub ground-wrong : k .ground ≡ true → Reads variables′
-    ground-wrong g = rw er (laws.ground-wrong (k .ground) (k .over) text (k .at .start) t et vs a b c g)
+    ground-wrong g = rw er (laws.ground-wrong (k .ground) (k .over) text (k .at .start) t et vs a s b c g)
 
     pub free-wrong : k .ground ≡ false → (t .kind ≡ 2 → ⊥) → (t .kind ≡ 3 → ⊥) → Reads variables′
-    free-wrong g d e = rw er (laws.free-wrong (k .ground) (k .over) text (k .at .start) t et vs a b c g d e)
+    free-wrong g d e = rw er (laws.free-wrong (k .ground) (k .over) text (k .at .start) t et vs a s b c g d e)
 
 module _ (program output text : Bytes) (names variables : List ℕ) (k : Cursor) (ready : ReadyCursor program output text names variables k) (r : TermRead) where
-  -- a term that is no name leaves the names as they are
+  -- a term that is no name and no string leaves the names as they are
   pub nameless : (variables′ : List ℕ) → ReadsNameless (k .ground) (k .over) text (k .at .start) variables (k .met) r variables′ → ReadsTerm program output text names variables k r names variables′
   nameless variables′ (read c b n o f x s m w) = read c b n o f x (record { grows = grows-none program output names _ (ready .room .in-order); coded = s _ }) m w
   nameless variables′ (stopped c w) = stopped c w
 
-  module _ (t : TokenRead) (et : t ≡ tokenRead (k .ground) text (k .at .start)) (ek : t .kind ≡ 0) (code : ℕ) (ec : code ≡ wordCode (t .place .len) (k .over)) where
-    pub name-stops : (names′ : List ℕ) → (code ≡ 0 → ⊥) → r ≡ stoppedTerm code (t .place) (k .met) → ReadsTerm program output text names variables k r names′ variables
-    name-stops names′ n er = rw er (laws.name-stops (k .ground) (k .over) text (k .at .start) t et (met-before variables k) ek code ec n)
+  module _ (t : TokenRead) (et : t ≡ tokenRead (k .ground) text (k .at .start)) where
+    -- the table grows by one, and the token has a byte
+    by-one : {C : List Bytes → Type 0} {names′ : List ℕ} → (t .kind ≡ 20 → ⊥) → Codes program output names 1 C names′ → Codes program output names (next-of t - k .at .start) C names′
+    by-one n h = codes-wider _ (let l = forward (k .ground) text (k .at .start) t et n in omega arith) h
 
-    -- a name is put into the table of names
-    pub name-goes : code ≡ 0 → (names′ : List ℕ) (i : ℕ) → Interns program output names (part text (t .place)) names′ (At i) → r ≡ goneTerm (first-name + i) (past (t .place)) (k .met) → ReadsTerm program output text names variables k r names′ variables
-    name-goes z names′ i h er = rw er (laws.name-goes (k .ground) (k .over) text (k .at .start) t et (met-before variables k) ek code ec z (met-fits ready) (codes-wider _ (let l = forward (k .ground) text (k .at .start) t et (λ q. let y : _≡_ {A = ℕ} 0 20 = inv ek ∙ q in omega arith) in omega arith) (name-coded program output names _ names′ i h)))
+    module _ (ek : t .kind ≡ 0) (code : ℕ) (ec : code ≡ wordCode (t .place .len) (k .over)) where
+      pub name-stops : (names′ : List ℕ) → (code ≡ 0 → ⊥) → r ≡ stoppedTerm code (t .place) (k .met) → ReadsTerm program output text names variables k r names′ variables
+      name-stops names′ n er = rw er (laws.name-stops (k .ground) (k .over) text (k .at .start) t et (met-before variables k) ek code ec n)
+
+      -- a name is put into the table of names
+      pub name-goes : code ≡ 0 → (names′ : List ℕ) (i : ℕ) → Interns program output names (part text (t .place)) names′ (At i) → r ≡ goneTerm (first-name + i) (past (t .place)) (k .met) → ReadsTerm program output text names variables k r names′ variables
+      name-goes z names′ i h er = rw er (laws.name-goes (k .ground) (k .over) text (k .at .start) t et (met-before variables k) ek code ec z (met-fits ready) (by-one (λ q. omega arith) (name-coded program output names _ names′ i h)))
+
+    module _ (ek : t .kind ≡ 22) (code : ℕ) (ec : code ≡ wordCode (t .place .len - 2) (k .over)) where
+      pub string-stops : (names′ : List ℕ) → (code ≡ 0 → ⊥) → r ≡ stoppedTerm code (t .place) (k .met) → ReadsTerm program output text names variables k r names′ variables
+      string-stops names′ n er = rw er (laws.string-stops (k .ground) (k .over) text (k .at .start) t et (met-before variables k) ek code ec n)
+
+      -- and so is a string, without its closing quote
+      pub string-goes : code ≡ 0 → (names′ : List ℕ) (i : ℕ) → Interns program output names (part text (with-len (t .place) (t .place .len - 1))) names′ (At i) → r ≡ goneTerm (first-string + i) (past (t .place)) (k .met) → ReadsTerm program output text names variables k r names′ variables
+      string-goes z names′ i h er = rw er (laws.string-goes (k .ground) (k .over) text (k .at .start) t et (met-before variables k) ek code ec z (met-fits ready) (by-one (λ q. omega arith) (string-coded program output names _ names′ i h _ (string-opened-here (k .ground) text (k .at .start) t et ek))))

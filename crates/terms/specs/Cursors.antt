@@ -19,8 +19,8 @@ use Rattle.terms.specs.declared.cursor.Cursor.{Cursor}
 abbrev pub variables-size : ℕ
 variables-size = 64
 
--- the text stands in the two texts, the cursor by its line and column in it, the table of names has room for as many names as there are bytes ahead, and the variables' table for as
--- many as a rule may have
+-- the text stands in the two texts, the cursor by its line and column in it, the table of names has room for as many names as there are bytes
+-- ahead, and the variables' table for as many as a rule may have
 pub record ReadyCursor (program output text : Bytes) (names variables : List ℕ) (k : Cursor) : Type 0 where
   pub source : Source program output text (k .base)
   pub short : length text ≤ most-text

@@ -28,21 +28,21 @@ use Rattle.terms.specs.Cursors.{variables-size, ReadyCursor, ReadyToken,
 abbrev pub ReadsTerm : Bytes → Bytes → Bytes → List ℕ → List ℕ → Cursor → TermRead → List ℕ → List ℕ → Type 0
 ReadsTerm program output text names variables k r names′ variables′ = Fills (term-in (k .ground) (k .over)) (k .over) text (k .at .start) (met-before variables k) (r .progress) (places-in variables′ (r .met)) (λ (t : Term Value). Codes program output names (r .progress .place .start - k .at .start) (λ ns. CodedTerm ns (r .number) t) names′)
 
--- ---- a name
+-- ---- a name, or a string
 
--- what is asked: the cursor stands at it, beside some table of variables
-pub record ReadyName (program output text : Bytes) (names : List ℕ) (k : Cursor) (t : TokenRead) : Type 0 where
+-- what is asked: the cursor stands at one of the kind, beside some table of variables
+pub record ReadyConstant (kind : ℕ) (program output text : Bytes) (names : List ℕ) (k : Cursor) (t : TokenRead) : Type 0 where
   pub variables : List ℕ
   pub ready : ReadyToken program output text names variables k t
-  pub is-name : t .kind ≡ 0
+  pub is-kind : t .kind ≡ kind
 
 -- whatever variables have been met, they stay as they are
-abbrev pub ReadsName : Bytes → Bytes → Bytes → List ℕ → Cursor → TermRead → List ℕ → Type 0
-ReadsName program output text names k r names′ = (variables : List ℕ) → ReadyCursor program output text names variables k → ReadsTerm program output text names variables k r names′ variables
+abbrev pub ReadsConstant : Bytes → Bytes → Bytes → List ℕ → Cursor → TermRead → List ℕ → Type 0
+ReadsConstant program output text names k r names′ = (variables : List ℕ) → ReadyCursor program output text names variables k → ReadsTerm program output text names variables k r names′ variables
 
 -- ---- a number
 
--- the number of a term that is no name stands for it beside any names
+-- the number of a term that is no name and no string stands for it beside any names
 abbrev pub Nameless : ℕ → Term Value → Type 0
 Nameless number t = (names : List Bytes) → CodedTerm names number t
 
@@ -59,7 +59,7 @@ pub record Puttable (variables : List ℕ) (t : TokenRead) (met : ℕ) : Type 0 
   pub long : variables-size ≤ length variables
   pub fits : Storable (t .place)
 
--- a term that is no name, and so leaves the names as they are
+-- a term that is no name and no string, and so leaves the names as they are
 abbrev pub ReadsNameless : Bool → Bool → Bytes → ℕ → List ℕ → ℕ → TermRead → List ℕ → Type 0
 ReadsNameless ground over text at variables met r variables′ = Fills (term-in ground over) over text at (places-in variables met) (r .progress) (places-in variables′ (r .met)) (Nameless (r .number))
 
@@ -70,13 +70,15 @@ ReadsVariable text variables t over met r variables′ = (at : ℕ) → t ≡ to
 abbrev pub ReadsAnonymous : List ℕ → TokenRead → Bool → ℕ → TermRead → List ℕ → Type 0
 ReadsAnonymous variables t over met r variables′ = (text : Bytes) (at : ℕ) → t ≡ tokenRead false text at → t .kind ≡ 3 → ReadsNameless false over text at variables met r variables′
 
--- ---- any term that is no name
+-- ---- any term that is no name, no number and no string
 
 -- what is asked: the cursor stands at its first token, whose place fits the variables' table
 pub record ReadyNameless (text : Bytes) (variables : List ℕ) (k : Cursor) (t : TokenRead) : Type 0 where
   pub puttable : Puttable variables t (k .met)
   pub is-token : t ≡ tokenRead (k .ground) text (k .at .start)
   pub no-name : t .kind ≡ 0 → ⊥
+  pub no-string : t .kind ≡ 22 → ⊥
+  pub no-number : t .kind ≡ 4 → ⊥
 
 -- ---- what the parts of it answer
 

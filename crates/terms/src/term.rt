@@ -1,11 +1,14 @@
-// A term, read as its number: a name's number in the table of names, a number's code, or a variable's number in the rule.
+// A term, read as its number: a name's or a string's code by its place in the table of names, a number's code, or a variable's number in the rule.
 ghost use mathlib.Core.Path.{_≡_};
+ghost use Rattle.tokens.specs.declared.kind.Kind.the-variants.{Name, String};
+ghost use Rattle.tokens.specs.Kind.{kindNumber};
 ghost use Rattle.tokens.specs.Place.{Stands, Countable};
 ghost use Rattle.syntax.specs.Text.{next-of};
 ghost use Rattle.terms.specs.Cursors.{ReadyToken};
-ghost use Rattle.terms.specs.Terms.{stoppedTerm, goneTerm, numberTerm, Puttable, ReadyName, ReadyNameless, ReadsName, ReadsNameless, ReadsVariable, ReadsAnonymous, ReadsNegative, ReadsTerm};
+ghost use Rattle.terms.specs.Terms.{stoppedTerm, goneTerm, numberTerm, Puttable, ReadyConstant, ReadyNameless, ReadsConstant, ReadsNameless, ReadsVariable, ReadsAnonymous, ReadsNegative, ReadsTerm};
 use crate::cursor::Cursor;
 use codes::FIRST_NAME;
+use codes::FIRST_STRING;
 use rows::term::name_number;
 use rows::term::number_code;
 use syntax::token::Progress;
@@ -15,16 +18,19 @@ use syntax::variable::variable_number;
 use syntax::word::BIG;
 use syntax::word::OVER;
 use syntax::word::WRONG;
+use syntax::word::string_code;
 use syntax::word::word_code;
 use tokens::kind::ANONYMOUS;
 use tokens::kind::MINUS;
 use tokens::kind::NAME;
 use tokens::kind::NUMBER;
+use tokens::kind::STRAY;
 use tokens::kind::VARIABLE;
 use tokens::number::value;
 use tokens::parts::part;
 use tokens::place::Place;
 use tokens::place::past;
+use tokens::place::with_len;
 use tokens::places::put_place;
 use tokens::sizes::MOST_NUMBER;
 use tokens::sizes::MOST_VARIABLES;
@@ -136,8 +142,8 @@ fn name_term<'a>(
     cursor: Cursor,
     token: TokenRead,
 ) -> TermRead
-    requires { ⌜ ReadyName (now program) (now output) (now text) (now names) cursor token ⌝ }
-    ensures { λ r. ⌜ ReadsName (now (program .entry)) (now (output .entry)) (now (text .entry)) (now (names .entry)) cursor r (now (names .exit)) ⌝ }
+    requires { ⌜ ReadyConstant (kindNumber Name) (now program) (now output) (now text) (now names) cursor token ⌝ }
+    ensures { λ r. ⌜ ReadsConstant (now (program .entry)) (now (output .entry)) (now (text .entry)) (now (names .entry)) cursor r (now (names .exit)) ⌝ }
 {
     let code = word_code(token.place, cursor.over);
     if code != 0 {
@@ -147,16 +153,34 @@ fn name_term<'a>(
     gone(FIRST_NAME + number as u64, past(token.place), cursor.met)
 }
 
-// The term that begins with `token`, which is no name, where the cursor stands.
+// The string that `token` is, where the cursor stands: in the table of names it stands without its closing quote, so that it is no name there.
+fn string_term<'a>(
+    program: &'a [u8],
+    output: &'a [u8],
+    text: &'a [u8],
+    names: &mut [u32],
+    cursor: Cursor,
+    token: TokenRead,
+) -> TermRead
+    requires { ⌜ ReadyConstant (kindNumber String) (now program) (now output) (now text) (now names) cursor token ⌝ }
+    ensures { λ r. ⌜ ReadsConstant (now (program .entry)) (now (output .entry)) (now (text .entry)) (now (names .entry)) cursor r (now (names .exit)) ⌝ }
+{
+    let code = string_code(token.place, cursor.over);
+    if code != 0 {
+        return stopped(code, token.place, cursor.met);
+    }
+    let opened = with_len(token.place, token.place.len - 1);
+    let number = name_number(program, output, text, names, cursor.base, opened);
+    gone(FIRST_STRING + number as u64, past(token.place), cursor.met)
+}
+
+// The term that begins with `token`, which is no name, no number and no string, where the cursor stands.
 fn nameless_term(text: &[u8], variables: &mut [u32], cursor: Cursor, token: TokenRead) -> TermRead
     requires { ⌜ ReadyNameless (now text) (now variables) cursor token ⌝ }
     ensures { λ r. ⌜ ReadsNameless (cursor .ground) (cursor .over) (now (text .entry)) (cursor .at .start) (now (variables .entry)) (cursor .met) r (now (variables .exit)) ⌝ }
 {
     let over = cursor.over;
     let met = cursor.met;
-    if token.kind == NUMBER {
-        return number_term(text, token, false, over, met);
-    }
     if token.kind == MINUS {
         if over {
             return stopped(OVER, token.place, met);
@@ -190,6 +214,13 @@ pub fn term_at<'a>(
 {
     if token.kind == NAME {
         return name_term(program, output, text, names, cursor, token);
+    }
+    if token.kind == NUMBER {
+        return number_term(text, token, false, cursor.over, cursor.met);
+    }
+    // A string has the greatest number of all kinds; a test for it alone would turn these tests into a table of jumps.
+    if STRAY < token.kind {
+        return string_term(program, output, text, names, cursor, token);
     }
     nameless_term(text, variables, cursor, token)
 }

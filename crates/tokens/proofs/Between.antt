@@ -11,6 +11,7 @@ use Rattle.tokens.specs.declared.kind.Kind.the-variants.{Stray}
 use Rattle.tokens.specs.Class.{classOf}
 use Rattle.tokens.specs.Run.{isBlank}
 use Rattle.tokens.specs.Gap.{startsComment, gap}
+use Rattle.tokens.specs.Strings.{quote}
 use Rattle.tokens.specs.Kind.{isStray}
 use Rattle.tokens.specs.Spelling.{singleKind, pairKind, kindOf}
 use Rattle.meaning.proofs.Booleans.{never-true}
@@ -18,25 +19,25 @@ use Rattle.tokens.proofs.Conjunction.{both}
 use Rattle.tokens.proofs.Prefix.{prefix-none}
 use Rattle.tokens.proofs.Gaps.{no-gap}
 
-no-mark : (b : ℕ) → classOf b ≡ Other → singleKind b ≡ Stray → ((c : ℕ) → pairKind b c ≡ Stray) → (rest : List ℕ) → kindOf (b ∷ rest) ≡ Stray
+no-mark : (b : ℕ) → classOf b ≡ Other → eqb b quote ≡ false → singleKind b ≡ Stray → ((c : ℕ) → pairKind b c ≡ Stray) → (rest : List ℕ) → kindOf (b ∷ rest) ≡ Stray
 unfolding kindOf
-no-mark b o s p [] = rw o s
-no-mark b o s p (c ∷ []) = rw o (p c)
-no-mark b o s p (c ∷ d ∷ rest) = rw o
+no-mark b o q s p [] = rw (o, q) s
+no-mark b o q s p (c ∷ []) = rw (o, q) (p c)
+no-mark b o q s p (c ∷ d ∷ rest) = rw (o, q)
 
 pub blank-stray : (program : Bool) (b : ℕ) (rest : List ℕ) → isBlank program b ≡ true → kindOf (b ∷ rest) ≡ Stray
 unfolding isBlank classOf singleKind pairKind
 blank-stray program b rest = go (eqb b 32) refl (eqb b 9) refl (eqb b 10) refl
   where
     go : (s : Bool) → eqb b 32 ≡ s → (t : Bool) → eqb b 9 ≡ t → (n : Bool) → eqb b 10 ≡ n → (s || (t || (n && program))) ≡ true → kindOf (b ∷ rest) ≡ Stray
-    go true e t f n g h = rw (eqb-true b 32 e) (no-mark 32 refl refl (λ c. refl) rest)
-    go false e true f n g h = rw (eqb-true b 9 f) (no-mark 9 refl refl (λ c. refl) rest)
-    go false e false f true g h = rw (eqb-true b 10 g) (no-mark 10 refl refl (λ c. refl) rest)
+    go true e t f n g h = rw (eqb-true b 32 e) (no-mark 32 refl refl refl (λ c. refl) rest)
+    go false e true f n g h = rw (eqb-true b 9 f) (no-mark 9 refl refl refl (λ c. refl) rest)
+    go false e false f true g h = rw (eqb-true b 10 g) (no-mark 10 refl refl refl (λ c. refl) rest)
     go false e false f false g h = absurd (true≢false (sym h))
 
 comment-stray : (b : ℕ) (rest : List ℕ) → startsComment (b ∷ rest) ≡ true → (more : List ℕ) → kindOf (b ∷ more) ≡ Stray
 unfolding startsComment classOf singleKind pairKind
-comment-stray b rest e more = rw (eqb-true b 37 (both (eqb b 37) _ e .0)) (no-mark 37 refl refl (λ c. refl) more)
+comment-stray b rest e more = rw (eqb-true b 37 (both (eqb b 37) _ e .0)) (no-mark 37 refl refl refl (λ c. refl) more)
 
 pub token-no-gap : (program : Bool) (text : List ℕ) (len : ℕ) → isStray (kindOf (take len text)) ≡ false → gap program text ≡ 0
 unfolding kindOf

@@ -4,14 +4,15 @@ use mathlib.Core.Path.{_≡_, refl}
 use mathlib.Core.Bool.{Bool, true, false}
 use mathlib.Core.List.{List, [], _∷_}
 use Rattle.tokens.specs.declared.kind.Kind.{Kind}
-use Rattle.tokens.specs.declared.kind.Kind.the-variants.{Name, Not, Variable, Anonymous, Number, If, Minus, Times, Unequal, AlsoUnequal, AtMost, AtLeast, Stray}
+use Rattle.tokens.specs.declared.kind.Kind.the-variants.{Name, Not, Variable, Anonymous, Number, If, Minus, Times, Unequal, AlsoUnequal, AtMost, AtLeast, Stray, String}
 use Rattle.tokens.specs.declared.Token.{Token}
 use Rattle.tokens.specs.Class.{classOf}
 use Rattle.tokens.specs.Run.{isBlank, prefixLen}
 use Rattle.tokens.specs.Gap.{startsComment, gap}
+use Rattle.tokens.specs.Strings.{longer, closing}
 use Rattle.tokens.specs.Spelling.{singleKind, pairKind, nameKind}
 use Rattle.tokens.specs.Place.{newlines, since, line-of, column-of}
-use Rattle.tokens.specs.Token.{markAt, tokenAt, nextToken}
+use Rattle.tokens.specs.Token.{markAt, stringAt, tokenAt, nextToken}
 use Rattle.tokens.specs.Tokens.{tokensUpTo, tokensFrom}
 
 -- a text, whether it is a program or a facts line, and its tokens
@@ -58,6 +59,18 @@ examples =
     record { program = false; text = 97 ∷ 10 ∷ 98 ∷ []; tokens = placed Name 0 1 ∷ placed Stray 1 1 ∷ token-on 2 1 Name 2 1 ∷ [] } ∷
     record { program = true; text = 97 ∷ 10 ∷ 98 ∷ []; tokens = placed Name 0 1 ∷ token-on 2 1 Name 2 1 ∷ [] } ∷
     record { program = false; text = 32 ∷ 97 ∷ 9 ∷ 98 ∷ []; tokens = placed Name 1 1 ∷ placed Name 3 1 ∷ [] } ∷
+    -- `"%"a""`: in a string `%` starts no comment, also on a facts line; and a string may be empty
+    record { program = true; text = 34 ∷ 37 ∷ 34 ∷ 97 ∷ 34 ∷ 34 ∷ []; tokens = placed String 0 3 ∷ placed Name 3 1 ∷ placed String 4 2 ∷ [] } ∷
+    record { program = false; text = 34 ∷ 37 ∷ 34 ∷ []; tokens = placed String 0 3 ∷ [] } ∷
+    -- `"\""`: behind a backslash a quote ends nothing; and with no other the first opens no string, while the second may
+    record { program = true; text = 34 ∷ 92 ∷ 34 ∷ 34 ∷ []; tokens = placed String 0 4 ∷ [] } ∷
+    record { program = true; text = 34 ∷ 92 ∷ 34 ∷ []; tokens = placed Stray 0 1 ∷ placed Stray 1 1 ∷ placed Stray 2 1 ∷ [] } ∷
+    -- `"\a"` and `"\\"`: a backslash stands before a quote alone, and is no escape of its own
+    record { program = true; text = 34 ∷ 92 ∷ 97 ∷ 34 ∷ []; tokens = placed Stray 0 1 ∷ placed Stray 1 1 ∷ placed Name 2 1 ∷ placed Stray 3 1 ∷ [] } ∷
+    record { program = true; text = 34 ∷ 92 ∷ 92 ∷ 34 ∷ []; tokens = placed Stray 0 1 ∷ placed Stray 1 1 ∷ placed Stray 2 1 ∷ placed Stray 3 1 ∷ [] } ∷
+    -- a string ends on its line; NUL, CR, tab and bytes from 128 may stand in it
+    record { program = true; text = 34 ∷ 97 ∷ 10 ∷ 34 ∷ []; tokens = placed Stray 0 1 ∷ placed Name 1 1 ∷ token-on 2 1 Stray 3 1 ∷ [] } ∷
+    record { program = true; text = 34 ∷ 0 ∷ 13 ∷ 9 ∷ 255 ∷ 34 ∷ []; tokens = placed String 0 6 ∷ [] } ∷
     -- lines count on behind empty ones and behind a comment; a tab, a CR and the bytes of a letter beyond ASCII are a column each
     record { program = true; text = 10 ∷ 37 ∷ 195 ∷ 10 ∷ 9 ∷ 97 ∷ 13 ∷ 10 ∷ 195 ∷ 169 ∷ 98 ∷ []; tokens = token-on 3 2 Name 5 1 ∷ token-on 3 3 Stray 6 1 ∷ token-on 4 1 Stray 8 1 ∷ token-on 4 2 Stray 9 1 ∷ token-on 4 3 Name 10 1 ∷ [] } ∷
     []
@@ -67,5 +80,5 @@ Right [] = Unit {0}
 Right (x ∷ xs) = (tokensFrom (x .program) (x .text) 0 ≡ x .tokens) × Right xs
 
 pub right : Right examples
-unfolding classOf isBlank prefixLen startsComment gap singleKind pairKind nameKind markAt tokenAt nextToken tokensUpTo tokensFrom newlines since line-of column-of
-right = (refl, (refl, (refl, (refl, (refl, (refl, (refl, (refl, (refl, (refl, (refl, (refl, (refl, (refl, (refl, (refl, tt))))))))))))))))
+unfolding classOf isBlank prefixLen startsComment gap longer closing singleKind pairKind nameKind markAt stringAt tokenAt nextToken tokensUpTo tokensFrom newlines since line-of column-of
+right = (refl, (refl, (refl, (refl, (refl, (refl, (refl, (refl, (refl, (refl, (refl, (refl, (refl, (refl, (refl, (refl, (refl, (refl, (refl, (refl, (refl, (refl, (refl, (refl, tt))))))))))))))))))))))))

@@ -3,6 +3,7 @@ pub mod Conjunction
 pub mod Classes
 pub mod Prefix
 pub mod Every
+pub mod Strings
 pub mod Counting
 pub mod Gaps
 pub mod Decimal

@@ -5,23 +5,24 @@ use mathlib.Core.Path.{_≡_, refl, sym, ap, _∙_}
 use mathlib.Core.Bool.{Bool, true, false, cond, true≢false}
 use mathlib.Core.Logic.{_⊎_, inl, inr}
 use mathlib.Core.List.{List, []}
-use lib.Dec.{ltb}
+use lib.Dec.{eqb, ltb}
 use lib.ListN.{length, getD, take, drop, length-drop}
 use borrow.Author.Tests.{ltb-true, ltb-false}
 use Rattle.tokens.specs.declared.class.Class.{Class}
 use Rattle.tokens.specs.declared.class.Class.the-variants.{Lower, Upper, Digit, Underscore, Other}
 use Rattle.tokens.specs.declared.kind.Kind.{Kind}
-use Rattle.tokens.specs.declared.kind.Kind.the-variants.{End, Stray}
+use Rattle.tokens.specs.declared.kind.Kind.the-variants.{End, Stray, String}
 use Rattle.tokens.specs.declared.place.Place.{Place}
 use Rattle.tokens.specs.declared.Token.{Token}
 use Rattle.tokens.specs.Class.{classOf}
+use Rattle.tokens.specs.Strings.{quote, closing}
 use Rattle.tokens.specs.Gap.{gap}
 use Rattle.tokens.specs.Kind.{isEnd, isStray}
 use Rattle.tokens.specs.Spelling.{singleKind, pairKind, nameKind, kindOf}
 use Rattle.tokens.specs.Spells.{Spells}
 use Rattle.tokens.specs.Longest.{Longest, Found}
 use Rattle.tokens.specs.Place.{place-from, with-len}
-use Rattle.tokens.specs.Token.{standing, placed, markAt, startAt, tokenAt, nextToken}
+use Rattle.tokens.specs.Token.{standing, placed, markAt, stringAt, startAt, tokenAt, nextToken}
 use Rattle.tokens.specs.Tokens.{part}
 use Rattle.tokens.proofs.Prefix.{drop-at}
 use Rattle.tokens.proofs.Starts.{end-at, starts-at}
@@ -51,6 +52,14 @@ mark-not-end at b c = go (isStray (pairKind b c))
     go true = single-not-end b
     go false = pair-not-end b c
 
+string-not-end : (at : Place) (end : ℕ) → isEnd (stringAt at end .kind) ≡ false
+unfolding stringAt
+string-not-end at end = go (eqb end 0)
+  where
+    go : (t : Bool) → isEnd (cond t (standing Stray at 1) (standing String at (suc end)) .kind) ≡ false
+    go true = refl
+    go false = refl
+
 name-not-end : (len a b c : ℕ) → isEnd (nameKind len a b c) ≡ false
 unfolding nameKind
 name-not-end len a b c = search either
@@ -60,7 +69,11 @@ start-not-end at Lower b rest = name-not-end _ _ _ _
 start-not-end at Upper b rest = refl
 start-not-end at Digit b rest = refl
 start-not-end at Underscore b rest = refl
-start-not-end at Other b rest = mark-not-end at b (getD rest 0 0)
+start-not-end at Other b rest = go (eqb b quote)
+  where
+    go : (t : Bool) → isEnd (cond t (stringAt at (closing false rest)) (markAt at b (getD rest 0 0)) .kind) ≡ false
+    go true = string-not-end at (closing false rest)
+    go false = mark-not-end at b (getD rest 0 0)
 
 mark-place : (at : Place) (b c : ℕ) → markAt at b c .place ≡ with-len at (markAt at b c .place .len)
 unfolding markAt
@@ -70,12 +83,24 @@ mark-place at b c = go (isStray (pairKind b c))
     go true = refl
     go false = refl
 
+string-place : (at : Place) (end : ℕ) → stringAt at end .place ≡ with-len at (stringAt at end .place .len)
+unfolding stringAt
+string-place at end = go (eqb end 0)
+  where
+    go : (t : Bool) → cond t (standing Stray at 1) (standing String at (suc end)) .place ≡ with-len at (cond t (standing Stray at 1) (standing String at (suc end)) .place .len)
+    go true = refl
+    go false = refl
+
 start-place : (at : Place) (class : Class) (b : ℕ) (rest : List ℕ) → startAt at class b rest .place ≡ with-len at (startAt at class b rest .place .len)
 start-place at Lower b rest = refl
 start-place at Upper b rest = refl
 start-place at Digit b rest = refl
 start-place at Underscore b rest = refl
-start-place at Other b rest = mark-place at b (getD rest 0 0)
+start-place at Other b rest = go (eqb b quote)
+  where
+    go : (t : Bool) → cond t (stringAt at (closing false rest)) (markAt at b (getD rest 0 0)) .place ≡ with-len at (cond t (stringAt at (closing false rest)) (markAt at b (getD rest 0 0)) .place .len)
+    go true = string-place at (closing false rest)
+    go false = mark-place at b (getD rest 0 0)
 
 -- ---- the token at a place
 

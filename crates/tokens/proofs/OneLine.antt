@@ -11,20 +11,22 @@ use Rattle.tokens.specs.declared.class.Class.{Class}
 use Rattle.tokens.specs.declared.class.Class.the-variants.{Lower, Upper, Digit, Underscore, Other}
 use Rattle.tokens.specs.declared.run.Run.the-variants.{Word, Digits}
 use Rattle.tokens.specs.declared.kind.Kind.{Kind}
-use Rattle.tokens.specs.declared.kind.Kind.the-variants.{Stray}
+use Rattle.tokens.specs.declared.kind.Kind.the-variants.{Stray, String}
 use Rattle.tokens.specs.declared.place.Place.{Place}
 use Rattle.tokens.specs.declared.Token.{Token}
 use Rattle.tokens.specs.Class.{classOf}
 use Rattle.tokens.specs.Run.{isBlank, inLine, goesOn, prefixLen}
+use Rattle.tokens.specs.Strings.{quote, closing}
 use Rattle.tokens.specs.Gap.{gap}
 use Rattle.tokens.specs.Kind.{isEnd, isStray}
-use Rattle.tokens.specs.Spelling.{pairKind, every, numberKind, kindFrom, kindOf}
+use Rattle.tokens.specs.Spelling.{pairKind, markKind, every, numberKind, stringKind, kindFrom, kindOf}
 use Rattle.tokens.specs.Longest.{Found}
 use Rattle.tokens.specs.Place.{place-from, Stands, past}
 use Rattle.tokens.specs.Token.{nextToken}
 use Rattle.tokens.proofs.Conjunction.{both}
 use Rattle.tokens.proofs.Prefix.{drop-at, prefix-more}
 use Rattle.tokens.proofs.Every.{not-every-beyond}
+use Rattle.tokens.proofs.Strings.{closing-in-line}
 use Rattle.tokens.proofs.Counting.{from-stands, along-stands}
 use Rattle.tokens.proofs.Gaps.{behind-gap}
 use Rattle.tokens.proofs.KindNumber.{is-stray}
@@ -69,6 +71,16 @@ second-in-line b c h = go (eqb c 10) refl
         stray = rw (eqb-true c 10 e) (simp and-false)
     go false e = rw e
 
+string-in-line : (rest : List ℕ) → isStray (stringKind rest) ≡ false → every inLine rest ≡ true
+string-in-line [] h = absurd (true≢false h)
+string-in-line (c ∷ rest) h = closing-in-line (c ∷ rest) (eqb-true _ (suc (length rest)) (passed (eqb (closing false (c ∷ rest)) (suc (length rest))) String h)) (omega arith)
+
+mark-in-line : (b : ℕ) (rest : List ℕ) → isStray (markKind b rest) ≡ false → every inLine rest ≡ true
+unfolding every
+mark-in-line b [] h = refl
+mark-in-line b (c ∷ []) h = rw (second-in-line b c h)
+mark-in-line b (c ∷ d ∷ rest) h = absurd (true≢false h)
+
 -- by the class of the first byte
 rest-in-line : (class : Class) (b : ℕ) (rest : List ℕ) → isStray (kindFrom class b rest) ≡ false → every inLine rest ≡ true
 unfolding every
@@ -82,9 +94,11 @@ rest-in-line Digit b rest h = go (eqb b 48) rest h
     go false rest h = every-wider (goesOn Digits) inLine digit-in-line rest (passed (every (goesOn Digits) rest) _ h)
 rest-in-line Underscore b [] h = refl
 rest-in-line Underscore b (c ∷ rest) h = absurd (true≢false h)
-rest-in-line Other b [] h = refl
-rest-in-line Other b (c ∷ []) h = rw (second-in-line b c h)
-rest-in-line Other b (c ∷ d ∷ rest) h = absurd (true≢false h)
+rest-in-line Other b rest h = go (eqb b quote) h
+  where
+    go : (t : Bool) → isStray (cond t (stringKind rest) (markKind b rest)) ≡ false → every inLine rest ≡ true
+    go true k = string-in-line rest k
+    go false k = mark-in-line b rest k
 
 newline-blank : (b : ℕ) → eqb b 10 ≡ true → isBlank true b ≡ true
 unfolding isBlank

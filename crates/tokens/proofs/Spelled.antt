@@ -3,22 +3,24 @@ use Prim.Native.Nat.{ℕ, suc}
 use native.Mathlib.Omega.{arith}
 use mathlib.Core.Path.{_≡_, refl, sym, ap, _∙_}
 use mathlib.Core.Bool.{Bool, true, false, cond, _&&_, true≢false}
-use mathlib.Core.List.{List, [], _∷_}
+use mathlib.Core.List.{List, [], _∷_, _++_}
 use lib.Dec.{eqb}
-use lib.ListN.{length, getD, drop}
-use borrow.Author.Tests.{eqb-true, eqb-false}
+use lib.ListN.{length, getD, drop, length-append}
+use borrow.Author.Tests.{eqb-true, eqb-false, eq-eqb}
 use Rattle.tokens.specs.declared.class.Class.{Class}
 use Rattle.tokens.specs.declared.class.Class.the-variants.{Lower, Upper, Digit, Underscore, Other}
 use Rattle.tokens.specs.declared.run.Run.{Run}
 use Rattle.tokens.specs.declared.run.Run.the-variants.{Word, Digits}
 use Rattle.tokens.specs.declared.kind.Kind.{Kind}
-use Rattle.tokens.specs.declared.kind.Kind.the-variants.{Name, Not, Variable, Anonymous, Number, Open, Close, Comma, Dot, If, Minus, Plus, Times, Equal, Unequal, AlsoUnequal, Less, AtMost, Greater, AtLeast, End, Stray}
+use Rattle.tokens.specs.declared.kind.Kind.the-variants.{Name, Not, Variable, Anonymous, Number, Open, Close, Comma, Dot, If, Minus, Plus, Times, Equal, Unequal, AlsoUnequal, Less, AtMost, Greater, AtLeast, End, Stray, String}
 use Rattle.tokens.specs.Class.{classOf}
 use Rattle.tokens.specs.Run.{goesOn}
+use Rattle.tokens.specs.Strings.{quote, Quotable, quoted, closing}
 use Rattle.tokens.specs.Kind.{isStray}
-use Rattle.tokens.specs.Spelling.{singleKind, pairKind, markKind, nameKind, every, numberKind, anonymousKind, kindFrom, kindOf}
+use Rattle.tokens.specs.Spelling.{singleKind, pairKind, markKind, nameKind, every, numberKind, anonymousKind, stringKind, kindFrom, kindOf}
 use Rattle.tokens.specs.Spells.{spelling, Starts, Spells}
 use Rattle.tokens.proofs.Classes.{underscore-byte}
+use Rattle.tokens.proofs.Strings.{string-kind, closed-ends, quotable-closing}
 use Rattle.tokens.proofs.Every.{every-nil}
 use Rattle.tokens.proofs.Conjunction.{both}
 
@@ -133,7 +135,21 @@ module _ (b : ℕ) (rest : List ℕ) where
       go : (r : List ℕ) → Right (anonymousKind r) (b ∷ r)
       go [] = λ s. ap (λ (n : ℕ). n ∷ []) (underscore-byte b e)
       go (c ∷ r) = stray-right (b ∷ c ∷ r)
-  right Other e = mark-right b rest
+  right Other e = go (eqb b quote) refl
+    where
+      closed : b ≡ quote → (c : ℕ) (r : List ℕ) (t : Bool) → eqb (closing false (c ∷ r)) (suc (length r)) ≡ t → Right (cond t String Stray) (b ∷ c ∷ r)
+      closed q c r true f =
+          let x = closed-ends false (c ∷ r) (eqb-true _ _ f) (omega arith) in
+          λ s. record { inner = x .inner; in-quotes = cc (q, x .in-quotes); quotable = x .quotable }
+      closed q c r false f = stray-right (b ∷ c ∷ r)
+
+      string-right : b ≡ quote → (r : List ℕ) → Right (stringKind r) (b ∷ r)
+      string-right q [] = stray-right (b ∷ [])
+      string-right q (c ∷ r) = closed q c r (eqb (closing false (c ∷ r)) (suc (length r))) refl
+
+      go : (t : Bool) → eqb b quote ≡ t → Right (cond t (stringKind rest) (markKind b rest)) (b ∷ rest)
+      go true q = string-right (eqb-true b quote q) rest
+      go false q = mark-right b rest
 
 -- the kind of bytes says how they are spelled
 pub spells : (bytes : List ℕ) → isStray (kindOf bytes) ≡ false → Spells (kindOf bytes) bytes
@@ -173,6 +189,12 @@ number-kind (b ∷ rest) s = first-byte Digit Digits (b ∷ rest) (s .0) ∙ go 
     go true e = alone rest (s .1 (eqb-true b 48 e))
     go false e = rw (s .0 .others)
 
+kind-of-string : (s : List ℕ) → Quotable s → kindOf (quoted s) ≡ String
+unfolding kindOf classOf
+kind-of-string s x =
+    let len : length (s ++ quote ∷ []) ≡ suc (length s) = length-append s (quote ∷ []) ∙ omega arith in
+    string-kind (s ++ quote ∷ []) (omega arith) ∙ rw (quotable-closing x [], len, eq-eqb (suc (length s)) (suc (length s)) refl)
+
 pub kind-of-spelled : (kind : Kind) (bytes : List ℕ) → Spells kind bytes → kindOf bytes ≡ kind
 unfolding kindOf classOf singleKind pairKind nameKind every
 kind-of-spelled Name bytes s = name-kind bytes s
@@ -197,3 +219,4 @@ kind-of-spelled Greater bytes s = rw s
 kind-of-spelled AtLeast bytes s = rw s
 kind-of-spelled End bytes s = absurd s
 kind-of-spelled Stray bytes s = absurd s
+kind-of-spelled String bytes s = rw (s .in-quotes) (kind-of-string (s .inner) (s .quotable))

@@ -4,6 +4,7 @@ pub mod Class
 pub mod Run
 pub mod Gap
 pub mod Number
+pub mod Strings
 pub mod Kind
 pub mod Spelling
 pub mod Spells

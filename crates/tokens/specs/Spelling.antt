@@ -7,10 +7,11 @@ use lib.ListN.{length, getD}
 use Rattle.tokens.specs.declared.class.Class.{Class}
 use Rattle.tokens.specs.declared.class.Class.the-variants.{Lower, Upper, Digit, Underscore, Other}
 use Rattle.tokens.specs.declared.kind.Kind.{Kind}
-use Rattle.tokens.specs.declared.kind.Kind.the-variants.{Name, Not, Variable, Anonymous, Number, Open, Close, Comma, Dot, If, Minus, Plus, Times, Equal, Unequal, AlsoUnequal, Less, AtMost, Greater, AtLeast, Stray}
+use Rattle.tokens.specs.declared.kind.Kind.the-variants.{Name, Not, Variable, Anonymous, Number, Open, Close, Comma, Dot, If, Minus, Plus, Times, Equal, Unequal, AlsoUnequal, Less, AtMost, Greater, AtLeast, Stray, String}
 use Rattle.tokens.specs.declared.run.Run.the-variants.{Word, Digits}
 use Rattle.tokens.specs.Class.{classOf}
 use Rattle.tokens.specs.Run.{goesOn}
+use Rattle.tokens.specs.Strings.{quote, closing}
 
 -- ---- marks
 
@@ -67,6 +68,13 @@ abbrev pub anonymousKind : List ℕ → Kind
 anonymousKind [] = Anonymous
 anonymousKind (b ∷ rest) = Stray
 
+-- ---- strings
+
+-- the bytes behind a quote, as far as the one that closes the string
+abbrev pub stringKind : List ℕ → Kind
+stringKind [] = Stray
+stringKind (b ∷ rest) = cond (eqb (closing false (b ∷ rest)) (suc (length rest))) String Stray
+
 -- ---- the whole piece: one token of this kind, or `Stray` where it is none
 
 -- by the class of the first byte, that byte, and the bytes after it
@@ -75,7 +83,7 @@ kindFrom Lower b rest = cond (every (goesOn Word) rest) (nameKind (suc (length r
 kindFrom Upper b rest = cond (every (goesOn Word) rest) Variable Stray
 kindFrom Digit b rest = numberKind (eqb b 48) rest
 kindFrom Underscore b rest = anonymousKind rest
-kindFrom Other b rest = markKind b rest
+kindFrom Other b rest = cond (eqb b quote) (stringKind rest) (markKind b rest)
 
 unfoldable pub kindOf : List ℕ → Kind
 kindOf [] = Stray

@@ -9,12 +9,13 @@ use Rattle.tokens.specs.declared.class.Class.the-variants.{Lower, Upper,
 use Rattle.tokens.specs.declared.run.Run.{Run}
 use Rattle.tokens.specs.declared.run.Run.the-variants.{Word, Digits}
 use Rattle.tokens.specs.declared.kind.Kind.{Kind}
-use Rattle.tokens.specs.declared.kind.Kind.the-variants.{Name, Not, Variable, Anonymous, Number, Open, Close, Comma, Dot, If, Minus, Plus, Times, Equal, Unequal, AlsoUnequal, Less, AtMost, Greater, AtLeast, End, Stray}
+use Rattle.tokens.specs.declared.kind.Kind.the-variants.{Name, Not, Variable, Anonymous, Number, Open, Close, Comma, Dot, If, Minus, Plus, Times, Equal, Unequal, AlsoUnequal, Less, AtMost, Greater, AtLeast, End, Stray, String}
 use Rattle.tokens.specs.Class.{classOf}
 use Rattle.tokens.specs.Run.{goesOn}
 use Rattle.tokens.specs.Spelling.{every}
+use Rattle.tokens.specs.Strings.{IsString}
 
--- the bytes of `not`, `_` and the marks; words and numbers have many spellings
+-- the bytes of `not`, `_` and the marks; words, numbers and strings have many spellings
 abbrev pub spelling : Kind → List ℕ
 spelling Name = []
 spelling Not = 110 ∷ 111 ∷ 116 ∷ []
@@ -38,6 +39,7 @@ spelling Greater = 62 ∷ []
 spelling AtLeast = 62 ∷ 61 ∷ []
 spelling End = []
 spelling Stray = []
+spelling String = []
 
 -- bytes of which the first has this class, and all others go on this run
 pub record Starts (class : Class) (run : Run) (bytes : List ℕ) : Type 0 where
@@ -69,3 +71,4 @@ Spells Greater bytes = bytes ≡ spelling Greater
 Spells AtLeast bytes = bytes ≡ spelling AtLeast
 Spells End bytes = ⊥
 Spells Stray bytes = ⊥
+Spells String bytes = IsString bytes

@@ -1,6 +1,6 @@
 -- The token at a place, and the first token at or after a place.
 use Prim.Native.Nat.{ℕ, suc, _+_}
-use mathlib.Core.Bool.{Bool, cond}
+use mathlib.Core.Bool.{Bool, false, cond}
 use mathlib.Core.List.{List, [], _∷_}
 use lib.Dec.{eqb}
 use lib.ListN.{length, getD, drop}
@@ -8,10 +8,11 @@ use Rattle.tokens.specs.declared.class.Class.{Class}
 use Rattle.tokens.specs.declared.class.Class.the-variants.{Lower, Upper, Digit, Underscore, Other}
 use Rattle.tokens.specs.declared.run.Run.the-variants.{Word, Digits}
 use Rattle.tokens.specs.declared.kind.Kind.{Kind}
-use Rattle.tokens.specs.declared.kind.Kind.the-variants.{Variable, Anonymous, Number, End}
+use Rattle.tokens.specs.declared.kind.Kind.the-variants.{Variable, Anonymous, Number, End, Stray, String}
 use Rattle.tokens.specs.declared.Token.{Token}
 use Rattle.tokens.specs.Class.{classOf}
 use Rattle.tokens.specs.Run.{goesOn, prefixLen}
+use Rattle.tokens.specs.Strings.{quote, closing}
 use Rattle.tokens.specs.Gap.{gap}
 use Rattle.tokens.specs.Kind.{isStray}
 use Rattle.tokens.specs.Spelling.{singleKind, pairKind, nameKind}
@@ -30,6 +31,10 @@ placed text kind start len = standing kind (place-from text start 0) len
 unfoldable pub markAt : Place → ℕ → ℕ → Token
 markAt at b c = cond (isStray (pairKind b c)) (standing (singleKind b) at 1) (standing (pairKind b c) at 2)
 
+-- a string that so many bytes behind its opening quote end, or the quote alone where none do
+unfoldable pub stringAt : Place → ℕ → Token
+stringAt at end = cond (eqb end 0) (standing Stray at 1) (standing String at (suc end))
+
 -- the longest token at a place, by the class of the byte there, that byte, and the bytes after it
 abbrev pub startAt : Place → Class → ℕ → List ℕ → Token
 startAt at Lower b rest =
@@ -38,7 +43,7 @@ startAt at Lower b rest =
 startAt at Upper b rest = standing Variable at (suc (prefixLen (goesOn Word) rest))
 startAt at Digit b rest = standing Number at (cond (eqb b 48) 1 (suc (prefixLen (goesOn Digits) rest)))
 startAt at Underscore b rest = standing Anonymous at 1
-startAt at Other b rest = markAt at b (getD rest 0 0)
+startAt at Other b rest = cond (eqb b quote) (stringAt at (closing false rest)) (markAt at b (getD rest 0 0))
 
 -- the token at a place of a text, by what is left of the text there
 abbrev pub tokenFrom : List ℕ → ℕ → List ℕ → Token

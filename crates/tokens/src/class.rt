@@ -24,17 +24,23 @@ pub fn class_of(byte: u8) -> Class
     }
 }
 
-// Does a byte of the class go on a name or a variable?
-pub(crate) fn is_word(class: Class) -> bool
-    ensures { λ r. ⌜ r ≡ isWord class ⌝ }
+// Does the byte go on a name or a variable? By its value, the small letters soon: most bytes of names are.
+pub(crate) fn in_word(byte: u8) -> bool
+    ensures { λ r. ⌜ r ≡ isWord (classOf byte) ⌝ }
 {
-    match class {
-        Class::Lower => true,
-        Class::Upper => true,
-        Class::Digit => true,
-        Class::Underscore => true,
-        Class::Other => false,
+    if byte < b'0' {
+        return false;
     }
+    if b'a' <= byte {
+        return byte <= b'z';
+    }
+    if byte <= b'9' {
+        return true;
+    }
+    if byte <= b'Z' {
+        return b'A' <= byte;
+    }
+    byte == b'_'
 }
 
 // Is a byte of the class a digit?

@@ -46,9 +46,12 @@ pub enum Kind {
     End,
     // a byte where no token starts
     Stray,
+    // from a quote to a quote
+    String,
 }
 
-// The number of each kind, by which a caller branches. The operations stand together, and so do the comparisons.
+// The number of each kind, by which a caller branches. The operations stand together, and so do the comparisons; no kind has a greater number
+// than a string.
 pub const NAME: u8 = 0;
 
 pub const NOT: u8 = 1;
@@ -93,6 +96,8 @@ pub const END: u8 = 20;
 
 pub const STRAY: u8 = 21;
 
+pub const STRING: u8 = 22;
+
 // The number of a kind.
 pub fn kind_number(kind: Kind) -> u8
     ensures { λ r. ⌜ r ≡ kindNumber kind ⌝ }
@@ -120,6 +125,7 @@ pub fn kind_number(kind: Kind) -> u8
         Kind::AtLeast => AT_LEAST,
         Kind::End => END,
         Kind::Stray => STRAY,
+        Kind::String => STRING,
     }
 }
 

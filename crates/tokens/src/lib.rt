@@ -1,7 +1,11 @@
-// Bytes to tokens: a byte's class, blanks and comments, words, numbers, marks, and the token at a place.
+// Bytes to tokens: a byte's class, blanks and comments, words, numbers, strings, marks, and the token at a place.
 ghost use mathlib.Core.Path.{_≡_};
+ghost use mathlib.Core.Bool.{false};
+ghost use Prim.Native.Nat.{_+_, _<_};
+ghost use lib.ListN.{length, drop};
 ghost use Rattle.tokens.specs.Place.{Stands};
-ghost use Rattle.tokens.specs.Token.{standing, markAt, tokenAt, nextToken};
+ghost use Rattle.tokens.specs.Strings.{closing};
+ghost use Rattle.tokens.specs.Token.{standing, markAt, stringAt, tokenAt, nextToken};
 use class::Class;
 use class::class_of;
 use kind::Kind;
@@ -15,6 +19,7 @@ use place::with_len;
 use run::Run;
 use run::byte_at;
 use run::run_end;
+use string::closing;
 
 pub mod class;
 mod gap;
@@ -25,6 +30,7 @@ pub mod place;
 pub mod places;
 pub mod run;
 pub mod sizes;
+mod string;
 
 // A token: what it is, and where it stands.
 pub struct Token {
@@ -51,6 +57,18 @@ fn mark_at(at: Place, first: u8, second: u8) -> Token
         return placed(single_kind(first), at, 1);
     }
     placed(pair, at, 2)
+}
+
+// The string that the quote at `at` opens, or that quote alone where it opens none.
+fn string_at(text: &[u8], at: Place) -> Token
+    requires { ⌜ at .start < length (now text) ⌝ }
+    ensures { λ r. ⌜ r ≡ stringAt at (closing false (drop (at .start + 1) (now (text .entry)))) ⌝ }
+{
+    let end = closing(text, at.start + 1);
+    if end == 0 {
+        return placed(Kind::Stray, at, 1);
+    }
+    placed(Kind::String, at, end + 1)
 }
 
 // The longest token that starts at `at`, or one stray byte; the end at the text's length.
@@ -88,7 +106,12 @@ fn token_at(text: &[u8], at: Place) -> Token
             placed(Kind::Number, at, len)
         }
         Class::Underscore => placed(Kind::Anonymous, at, 1),
-        Class::Other => mark_at(at, first, byte_at(text, next)),
+        Class::Other => {
+            if first == b'"' {
+                return string_at(text, at);
+            }
+            mark_at(at, first, byte_at(text, next))
+        }
     }
 }
 

@@ -12,7 +12,7 @@ pub const MOST_LITERALS: usize = 16;
 // Arguments of an atom.
 pub const MOST_ARGUMENTS: usize = 8;
 
-// Bytes of a name or a variable.
+// Bytes of a name or a variable, and of a string between its quotes.
 pub const MOST_NAME: usize = 64;
 
 // Variables of a rule, each `_` counting.

@@ -104,8 +104,23 @@ fn change_argument(random: &mut Random, fact: &mut Fact) {
     let place = random.below(fact.arguments.len());
     match &mut fact.arguments[place] {
         Value::Number(number) if random.chance(60) => *number = (*number + 1).min(1_000_000_000),
+        argument if random.chance(30) => *argument = of_other_kind(argument),
         argument => *argument = random_value(random),
     }
+}
+
+/// The value of another kind that is spelled most like it.
+fn of_other_kind(value: &Value) -> Value {
+    match value {
+        Value::Number(number) => Value::String(number.to_string().as_bytes().into()),
+        Value::Name(bytes) => Value::String(bytes.clone()),
+        Value::String(bytes) if is_name(bytes) => Value::Name(bytes.clone()),
+        Value::String(_) => Value::Number(0),
+    }
+}
+
+fn is_name(bytes: &[u8]) -> bool {
+    bytes.first().is_some_and(u8::is_ascii_lowercase) && bytes.iter().all(u8::is_ascii_alphanumeric)
 }
 
 fn random_value(random: &mut Random) -> Value {
@@ -113,7 +128,11 @@ fn random_value(random: &mut Random) -> Value {
         return Value::Number(random.below(5) as i64 - 1);
     }
     let word = random.pick(&["north", "south", "u1", "u2", "a", "b", "ab"]);
-    Value::Name(Name::from(word.as_bytes()))
+    let bytes = Name::from(word.as_bytes());
+    if random.chance(30) {
+        return Value::String(bytes);
+    }
+    Value::Name(bytes)
 }
 
 /// A fact of the predicates that programs here often have.
@@ -132,19 +151,24 @@ pub fn unrelated(random: &mut Random) -> Vec<Fact> {
 }
 
 /// A fact's text with its dot.
-pub fn spelled(fact: &Fact) -> String {
-    let sign = if fact.negative { "-" } else { "" };
-    let name = String::from_utf8_lossy(&fact.name);
-    if fact.arguments.is_empty() {
-        return format!("{sign}{name}.");
+pub fn spelled(fact: &Fact) -> Vec<u8> {
+    let mut text = if fact.negative { b"-".to_vec() } else { Vec::new() };
+    text.extend_from_slice(&fact.name);
+    for (place, argument) in fact.arguments.iter().enumerate() {
+        text.push(if place == 0 { b'(' } else { b',' });
+        text.extend(value_text(argument));
     }
-    let arguments: Vec<String> = fact.arguments.iter().map(value_text).collect();
-    format!("{sign}{name}({}).", arguments.join(","))
+    if !fact.arguments.is_empty() {
+        text.push(b')');
+    }
+    text.push(b'.');
+    text
 }
 
-fn value_text(value: &Value) -> String {
+fn value_text(value: &Value) -> Vec<u8> {
     match value {
-        Value::Number(number) => number.to_string(),
-        Value::Name(name) => String::from_utf8_lossy(name).into_owned(),
+        Value::Number(number) => number.to_string().into_bytes(),
+        Value::Name(name) => name.to_vec(),
+        Value::String(between) => [b"\"", &between[..], b"\""].concat(),
     }
 }

@@ -5,14 +5,15 @@ use crate::lexer::{tokens, Language};
 use crate::random::Random;
 
 /// Bytes that are put in: marks, edges of the classes, and bytes where no token starts.
-const BYTES: &[u8] = b".,()-+*=!<>:_%~|;@\"' \t\n\r\x00\x0b\x0c\x7f\x80\xc3\xa9\xff/0192azAZ[`{^";
+const BYTES: &[u8] = b".,()-+*=!<>:_%~|;@\"\"\\' \t\n\r\x00\x0b\x0c\x7f\x80\xc3\xa9\xff/0192azAZ[`{^";
 
 /// Tokens and near tokens that are put in.
 const WORDS: &[&str] = &[
     "not", ":-", "-", "--", ".", ",", "(", ")", "()", "=", "<>", "!=", "<=", ">=", "<", ">", "==", "=<", "+", "*", "/",
     "_", "__", "_a", "X", "Y", "a", "p(", "007", "00", "0x10", "1a", "1000000000", "1000000001", "-1000000001",
     "99999999999999999999", "%", "%*", "% b\n", ":", "!", ":~", "not not", "X=X", "X=1", "not a", "a=b", "-a=b", "1=1",
-    "-1", "- 1", "p()", "p(-a)", "Xs_1", "\u{e9}", "#", "\"a\"", "a|b", " ", "\n", "\r\n",
+    "-1", "- 1", "p()", "p(-a)", "Xs_1", "\u{e9}", "#", "a|b", " ", "\n", "\r\n", "\"a\"", "\"\"", "\"% a\"",
+    "\"\\\"\"", "\"", "\\\"", "\"a\n\"", "\"\\\\\"", "-\"a\"", "not \"a\"", "\"a\"=\"b\"", "\"a\"()", "\"a\"\"b\"",
 ];
 
 /// A program with one to three places damaged, and often another end, so that its end too stands on many a line.

@@ -2,12 +2,12 @@
 
 use crate::random::Random;
 
-const AROUND: &[&str] = &["", "", "%", "% Answer: 1", "%*", "%\u{e9}\r", "% a.", "%\t\u{2192}"];
+const AROUND: &[&str] = &["", "", "%", "% Answer: 1", "%*", "%\u{e9}\r", "% a.", "%\t\u{2192}", "% \"a"];
 const STRANGE: &[&str] =
-    &[" ", "\t", "\r", "a.", "ANSWER", " ANSWER", "answer", "UNKNOWN", "OPTIMUM", "ANSWE", "-", "x%"];
+    &[" ", "\t", "\r", "a.", "ANSWER", " ANSWER", "answer", "UNKNOWN", "OPTIMUM", "ANSWE", "-", "x%", "\"a\"", "\"%"];
 /// How many of the lines around an unusual report may not stand there.
 const STRANGE_PERCENT: usize = 8;
-const BEHIND_WORD: &[&str] = &["", "", "", "S", " 1", "\t", ".", "\r", "%", " a.", "\u{e9}"];
+const BEHIND_WORD: &[&str] = &["", "", "", "S", " 1", "\t", ".", "\r", "%", " a.", "\u{e9}", "\""];
 const CODES: &[u64] = &[10, 20, 1, 30, 0, 11, 266, 65_546, 4_294_967_306, 65_556, 65_537, u64::MAX];
 
 /// The code that goes with a report's word.

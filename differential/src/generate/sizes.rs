@@ -1,5 +1,6 @@
 //! Texts at the sizes' ends: one below, at, and one past each.
 
+use super::strings::{self, bytes_of};
 use super::style;
 use crate::random::Random;
 
@@ -13,7 +14,7 @@ pub struct Sized {
 
 /// A text pair around one of the sizes.
 pub fn sized(random: &mut Random) -> Sized {
-    match random.below(24) {
+    match random.below(34) {
         0..=2 => some_program(random, words),
         3 | 4 => facts_only(long_fact(random)),
         5..=7 => some_program(random, arguments),
@@ -23,13 +24,16 @@ pub fn sized(random: &mut Random) -> Sized {
         16 => some_program(random, rules),
         17 => many_facts(random),
         18..=20 => number(random),
-        _ => padded(random),
+        21..=23 => padded(random),
+        24..=27 => some_program(random, long_strings),
+        28 | 29 => facts_only(string_fact(random)),
+        _ => misplaced_string(random),
     }
 }
 
 /// A program of some kind, in some style.
 fn some_program(random: &mut Random, kind: fn(&mut Random) -> String) -> Sized {
-    let text = kind(random);
+    let text = bytes_of(&kind(random));
     program_only(style::styled(random, &text))
 }
 
@@ -38,7 +42,7 @@ fn program_only(program: Vec<u8>) -> Sized {
 }
 
 fn facts_only(text: String) -> Sized {
-    Sized { program: Vec::new(), facts: text.into_bytes(), output_length: None }
+    Sized { program: Vec::new(), facts: bytes_of(&text), output_length: None }
 }
 
 /// A number about a size: mostly the last that is allowed or the first that is not.
@@ -79,6 +83,69 @@ fn long_fact(random: &mut Random) -> String {
     }
 }
 
+/// Strings about 64 bytes, where they may stand and where they may not.
+fn long_strings(random: &mut Random) -> String {
+    let string = strings::sized_string(random);
+    let relation = random.pick(style::RELATIONS);
+    match random.below(9) {
+        0 => format!("p({string})."),
+        1 => format!("a.p(X):-q(X,{string}),X{relation}{string}."),
+        2 => format!("p:-{string}{relation}{string}."),
+        3 => format!(":-not p(1,{string})."),
+        4 => format!("p(X):-X=1+{string}."),
+        5 => format!("p {string}."),
+        6 => format!("p:-not {string}."),
+        7 => format!("p(-{string})."),
+        _ => format!("{string}(1)."),
+    }
+}
+
+fn string_fact(random: &mut Random) -> String {
+    let string = strings::sized_string(random);
+    match random.below(5) {
+        0 | 1 => format!("p({string})."),
+        2 => format!("a.-p(1,{string},a)."),
+        3 => format!("a.{string}."),
+        _ => format!("p({string}{string})."),
+    }
+}
+
+/// Texts with a string or a quote that opens none. `$` is one of the two.
+const WITH_STRINGS: &[&str] = &[
+    "p($).", "p(a,$).", "p:-$<1.", "p:-X=$.", "p:-q(X),X!=$,not r($).", "$.", "-$.", "a.$", "a.$.b.", "$:-a.", ":-$.",
+    "p:-not $.", "p:-not $=1.", "p:-a,$.", "p($", "p($)", "p(-$).", "p($+1).", "p:-X=1+$.", "p:-X=$-1.", "p:-$+1=X.",
+    "p:-$=$=$.", "p$.", "p($)($).", "p():-$()=1.", "$(1).", "p(1,2,3,4,5,6,7,8,$).", "p:-q(1,2,3,4,5,6,7,8,$",
+    "p(X$):-q(X).", "% $\np.",
+];
+/// The same for a facts line.
+const FACTS_WITH_STRINGS: &[&str] = &[
+    "p($).", "p(a,$). q.", "p($,$). p($).", "$.", "-$.", "a. $", "p($", "p($)", "p(-$).", "p $.", "p($)$.", "$(1).",
+    "p(1,2,3,4,5,6,7,8,$).", "p($ $).", "p($)=1.",
+];
+
+/// Strings where one may stand and where none may, and quotes that open none.
+fn misplaced_string(random: &mut Random) -> Sized {
+    if random.chance(35) {
+        let text = random.pick(FACTS_WITH_STRINGS);
+        return facts_only(with_string(random, text));
+    }
+    some_program(random, |random| {
+        let text = random.pick(WITH_STRINGS);
+        with_string(random, text)
+    })
+}
+
+/// A text with a string for each `$`, now and then a long one, or with a quote that opens none.
+fn with_string(random: &mut Random, text: &str) -> String {
+    let fill = |mark: char| match (mark, random.below(10)) {
+        ('$', 0..=2) => strings::unopened(random),
+        ('$', 3 | 4) => strings::sized_string(random),
+        ('$', _) => strings::string(random),
+        _ => mark.to_string(),
+    };
+    text.chars().map(fill).collect()
+}
+
 fn arguments(random: &mut Random) -> String {
     let atom = atom_with_arguments(random);
     match random.below(3) {
@@ -92,8 +159,9 @@ fn arguments(random: &mut Random) -> String {
 fn atom_with_arguments(random: &mut Random) -> String {
     let count = about(random, 8);
     let mut arguments = vec!["1".to_string(); count - 1];
-    arguments
-        .push(random.pick(&["1", "-1", "a", "1000000001", "-1000000001", "X", "_", ")", "not", "-", "-a"]).to_string());
+    let last =
+        random.pick(&["1", "-1", "a", "1000000001", "-1000000001", "X", "_", ")", "not", "-", "-a", "$", "$", "-$"]);
+    arguments.push(with_string(random, last));
     format!("p({})", arguments.join(","))
 }
 
@@ -103,9 +171,11 @@ fn literals(random: &mut Random) -> String {
     for _ in 1..count {
         body.push(random.pick(&["a", "not b", "1=1", "-c", "p(1)"]).to_string());
     }
-    let last =
-        random.pick(&["a", "not a", "1000000001=1", "-1000000001=1", "-a", "X=1", "_=1", ":-", ".", "not", "a(", "-"]);
-    body.push(last.to_string());
+    let last = random.pick(&[
+        "a", "not a", "1000000001=1", "-1000000001=1", "-a", "X=1", "_=1", ":-", ".", "not", "a(", "-", "$<1", "$=$",
+        "$",
+    ]);
+    body.push(with_string(random, last));
     format!("a:-{}.", body.join(","))
 }
 
@@ -157,7 +227,7 @@ fn number(random: &mut Random) -> Sized {
         3 => format!("p(X):-X=1-{sign}{number}."),
         _ => format!("p {sign}{number}."),
     };
-    program_only(style::styled(random, &text))
+    program_only(style::styled(random, text.as_bytes()))
 }
 
 /// Texts about 65,536 bytes, filled up by comments or blanks, with what matters at their ends.

@@ -29,40 +29,40 @@ pub fn rule_text(head: &str, body: &[String]) -> String {
 }
 
 /// A program text in some style: as it is, its tokens far apart, or its rules on lines of their own.
-pub fn styled(random: &mut Random, text: &str) -> Vec<u8> {
+pub fn styled(random: &mut Random, text: &[u8]) -> Vec<u8> {
     match random.below(100) {
-        0..=34 => text.as_bytes().to_vec(),
+        0..=34 => text.to_vec(),
         35..=64 => restyled(random, text),
         _ => laid_out(random, text),
     }
 }
 
 /// A program text with each rule on lines of its own, as people write it.
-fn laid_out(random: &mut Random, text: &str) -> Vec<u8> {
+fn laid_out(random: &mut Random, text: &[u8]) -> Vec<u8> {
     let broken = if random.chance(50) { random.between(5, 80) } else { 0 };
     let mut written = random.pick(&["", "", "% \u{e9}\n", "\n\n"]).as_bytes().to_vec();
     let mut from = 0;
-    for token in tokens(text.as_bytes(), Language::Program) {
+    for token in tokens(text, Language::Program) {
         let behind = match token.kind {
             Kind::Dot => random.pick(RULE_ENDS),
             Kind::If | Kind::Comma if random.chance(broken) => random.pick(INDENTS),
             _ => continue,
         };
-        written.extend_from_slice(&text.as_bytes()[from..token.end]);
+        written.extend_from_slice(&text[from..token.end]);
         written.extend_from_slice(behind.as_bytes());
         from = token.end;
     }
-    written.extend_from_slice(&text.as_bytes()[from..]);
+    written.extend_from_slice(&text[from..]);
     written.extend_from_slice(random.pick(ENDS).as_bytes());
     written
 }
 
 /// A program text with blanks and comments between its tokens, and some of them spelled another way.
-pub fn restyled(random: &mut Random, text: &str) -> Vec<u8> {
+pub fn restyled(random: &mut Random, text: &[u8]) -> Vec<u8> {
     let comments = random.chance(30);
     let density = random.between(5, 60);
     let mut written = Vec::new();
-    for token in tokens(text.as_bytes(), Language::Program) {
+    for token in tokens(text, Language::Program) {
         let spelling = &text[token.start..token.end];
         let last: Option<&u8> = written.last();
         let merges = last.is_some_and(|b| b.is_ascii_alphanumeric() || *b == b'_')
@@ -73,22 +73,22 @@ pub fn restyled(random: &mut Random, text: &str) -> Vec<u8> {
         if comments && random.chance(15) {
             written.extend_from_slice(random.pick(COMMENTS).as_bytes());
         }
-        written.extend_from_slice(respelled(random, token.kind, spelling).as_bytes());
+        written.extend_from_slice(respelled(random, token.kind, spelling));
     }
     written.extend_from_slice(random.pick(ENDS).as_bytes());
     written
 }
 
-fn respelled(random: &mut Random, kind: Kind, spelling: &str) -> String {
+fn respelled<'a>(random: &mut Random, kind: Kind, spelling: &'a [u8]) -> &'a [u8] {
     match kind {
-        Kind::Relation(Relation::Unequal) => random.pick(&["!=", "<>"]).to_string(),
-        Kind::Number if spelling == "0" && random.chance(30) => "-0".to_string(),
-        _ => spelling.to_string(),
+        Kind::Relation(Relation::Unequal) => random.pick(&["!=", "<>"]).as_bytes(),
+        Kind::Number if spelling == b"0" && random.chance(30) => b"-0",
+        _ => spelling,
     }
 }
 
 /// A facts line: each fact with its dot, blanks between them and sometimes within.
-pub fn facts_line(random: &mut Random, facts: &[String]) -> Vec<u8> {
+pub fn facts_line(random: &mut Random, facts: &[Vec<u8>]) -> Vec<u8> {
     let loose = random.chance(10);
     let between = random.pick(&[" ", " ", "", "\t", "  "]);
     let mut line = Vec::new();
@@ -98,7 +98,7 @@ pub fn facts_line(random: &mut Random, facts: &[String]) -> Vec<u8> {
         }
         match loose {
             true => line.extend(loosened(random, fact)),
-            false => line.extend_from_slice(fact.as_bytes()),
+            false => line.extend_from_slice(fact),
         }
     }
     if random.chance(10) {
@@ -107,13 +107,13 @@ pub fn facts_line(random: &mut Random, facts: &[String]) -> Vec<u8> {
     line
 }
 
-fn loosened(random: &mut Random, fact: &str) -> Vec<u8> {
+fn loosened(random: &mut Random, fact: &[u8]) -> Vec<u8> {
     let mut written = Vec::new();
-    for token in tokens(fact.as_bytes(), Language::Facts) {
+    for token in tokens(fact, Language::Facts) {
         if random.chance(30) {
             written.extend_from_slice(random.pick(&[" ", "\t", "  "]).as_bytes());
         }
-        written.extend_from_slice(&fact.as_bytes()[token.start..token.end]);
+        written.extend_from_slice(&fact[token.start..token.end]);
     }
     written
 }

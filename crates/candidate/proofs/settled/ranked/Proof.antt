@@ -8,14 +8,14 @@ judged-requires : tie.Need-judged-requires
 judged-requires c κs =
     let rank-names = c .before .before .before .before in
     let start = rank-names .before .before .before .before .before .before .before .before in
-    record { output = start .args .output .now; names = start .args .names .now; settling = start .pre .0; comparing = comparing-ranked _ _ _ _ _ _ (start .pre .0) _ (rank-names .rank-names .ensures) }
+    record { output = start .args .output .now; names = start .args .names .now; settling = start .pre .0; comparing = comparing-ranked _ _ _ _ (rank-names .rank-names .ensures) }
 
 returns : tie.Need-returns
 returns c =
     let judged = c .before .before in
     let rank-names = judged .before .before .before .before .before in
     let start = rank-names .before .before .before .before .before .before .before .before in
-    λ P I s. judged .judged .ensures _ _ P I s (comparing-ranked _ _ _ _ _ _ (start .pre .0) _ (rank-names .rank-names .ensures))
+    λ P I s. judged .judged .ensures _ _ P I s (comparing-ranked _ _ _ _ (rank-names .rank-names .ensures))
 
 pub ranked-spec : {M : Type 1} → statement M
 ranked-spec =

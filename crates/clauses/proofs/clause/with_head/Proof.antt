@@ -15,7 +15,7 @@ atom-at-requires : tie.Need-atom-at-requires
 atom-at-requires c κs =
     let token-at = c .before .before in
     let start = token-at .before .before .before .before .before .before in
-    ready-head (start .args .program .now) (start .args .output .now) (start .args .program .now) (start .args .names .now) (start .args .variables .now) (start .args .cursor) (start .pre .rule .ready .ready) false (start .pre .rule .ready .in-program) _ (token-at .token-at .ensures) (rw (token-at .token-at .ensures) (start .pre .no-if)) (rw (token-at .token-at .ensures) (start .pre .no-end))
+    ready-head (start .args .program .now) (start .args .output .now) (start .args .program .now) (start .args .names .now) (start .args .variables .now) (start .args .cursor) (start .pre .rule .ready .ready) false (start .pre .rule .ready .in-program) _ (token-at .token-at .ensures)
 
 returns : tie.Need-returns
 returns c =

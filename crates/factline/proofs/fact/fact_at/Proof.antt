@@ -29,7 +29,7 @@ atom-at-requires c κs =
     let if1 = if2 .before .before in
     let token-at = if1 .before .before in
     let start = token-at .before .before .before .before .before .before in
-    ready-head (start .args .program .now) (start .args .output .now) (start .args .text .now) (start .args .names .now) (start .args .variables .now) (start .args .cursor) (start .pre .ready) true (start .pre .on-line) _ (token-at .token-at .ensures) (if2 .if2 .left) (if1 .if1 .left)
+    ready-head (start .args .program .now) (start .args .output .now) (start .args .text .now) (start .args .names .now) (start .args .variables .now) (start .args .cursor) (start .pre .ready) true (start .pre .on-line) _ (token-at .token-at .ensures)
 
 returns-3 : tie.Need-returns-3
 returns-3 c =

@@ -1,6 +1,8 @@
 -- `literal::literal_at` meets its contract. Assumes nothing.
 use native.Mathlib.Omega.{arith}
-use mathlib.Core.Bool.{false≢true, false}
+use mathlib.Core.Path.{sym as inv, _∙_}
+use mathlib.Core.Bool.{false}
+use borrow.Author.Tests.{not-true, not-false}
 use Rattle.syntax.proofs.Tokens.{past-countable}
 use Rattle.literals.proofs.BuiltinLaws.{at-token, ready-token}
 use Rattle.literals.proofs.LiteralLaws.{not-over, minus-over, not-goes, minus-goes, literal-wrong, ready-left, literal-compared}
@@ -48,7 +50,7 @@ atom-at-requires c κs =
     let past = onward .before in
     let token-at = past .before in
     let start = token-at .before .before .before .before .before in
-    record { ready = at-token _ _ _ _ _ (rw (onward .onward .ensures, past .past .ensures) (ready-token (start .args .program .now) (start .args .output .now) (start .args .names .now) (start .args .variables .now) (start .args .cursor) (start .pre) _ (token-at .token-at .ensures) (λ z. omega (arith, if2 .if2 .taken)))) _ (token-at2 .token-at2 .ensures); begun = λ h. absurd (false≢true (rw (onward .onward .ensures, start .pre .in-program) at h)) }
+    at-token _ _ _ _ _ (rw (onward .onward .ensures, past .past .ensures) (ready-token (start .args .program .now) (start .args .output .now) (start .args .names .now) (start .args .variables .now) (start .args .cursor) (start .pre) _ (token-at .token-at .ensures) (λ z. omega (arith, if2 .if2 .taken)))) _ (token-at2 .token-at2 .ensures)
 
 returns-3 : tie.Need-returns-3
 returns-3 c =
@@ -92,31 +94,27 @@ returns-5 c =
 returns-6 : tie.Need-returns-6
 returns-6 c =
     let if6 = c .before in
-    let if4 = if6 .before .before in
-    let if1 = if4 .before .before .before .before in
-    let token-at = if1 .before .before .before .before in
-    let start = token-at .before .before .before .before .before in
-    literal-wrong (start .args .program .now) (start .args .output .now) (start .args .names .now) (start .args .variables .now) (start .args .cursor) (start .pre) _ (token-at .token-at .ensures) _ _ _ (if1 .if1 .left) (if4 .if4 .left) (if6 .if6 .taken) (c .stopped3 .ensures)
+    let token-at = c .before .before .before .before .before .before .before .before .before .before .before in
+    let start = c .before .before .before .before .before .before .before .before .before .before .before .before .before .before .before .before in
+    literal-wrong (start .args .program .now) (start .args .output .now) (start .args .names .now) (start .args .variables .now) (start .args .cursor) (start .pre) _ (token-at .token-at .ensures) _ _ _ (c .before .before .before .before .before .before .before .if1 .left) (c .before .before .before .if4 .left) (inv (if6 .before .begins-term .ensures) ∙ not-true _ (if6 .if6 .taken)) (c .stopped3 .ensures)
 
 term-at-requires : tie.Need-term-at-requires
 term-at-requires c κs =
     let token-at = c .before .before .before .before .before .before .before .before .before .before .before .before in
-    let start = token-at .before .before .before .before .before in
+    let start = c .before .before .before .before .before .before .before .before .before .before .before .before .before .before .before .before .before in
     at-token _ _ _ _ _ (start .pre) _ (token-at .token-at .ensures)
 
 compared-requires : tie.Need-compared-requires
-compared-requires c κs = λ e. ready-left (c .before .before .before .before .before .before .before .before .before .before .before .before .before .before .before .before .before .before .before .before .before .before .before .before .args .program .now) (c .before .before .before .before .before .before .before .before .before .before .before .before .before .before .before .before .before .before .before .before .before .before .before .before .args .output .now) (c .before .before .before .before .before .before .before .before .before .before .before .before .before .before .before .before .before .before .before .before .before .before .before .before .args .names .now) (c .before .before .before .before .before .before .before .before .before .before .before .before .before .before .before .before .before .before .before .before .before .before .before .before .args .variables .now) (c .before .before .before .before .before .before .before .before .before .before .before .before .before .before .before .before .before .before .before .before .before .before .before .before .args .cursor) (c .before .before .before .before .before .before .before .before .before .before .before .before .before .before .before .before .before .before .before .before .before .before .before .before .pre) _ (c .before .before .before .before .before .before .before .before .before .before .before .before .before .before .before .before .before .before .before .token-at .ensures) _ _ _ (c .before .before .before .before .before .before .term-at .ensures) (search needs) e
+compared-requires c κs =
+    let start = c .before .before .before .before .before .before .before .before .before .before .before .before .before .before .before .before .before .before .before .before .before .before .before .before in
+    λ e. ready-left (start .args .program .now) (start .args .output .now) (start .args .names .now) (start .args .variables .now) (start .args .cursor) (start .pre) _ (c .before .before .before .before .before .before .before .before .before .before .before .before .before .before .before .before .before .before .before .token-at .ensures) _ _ _ (c .before .before .before .before .before .before .term-at .ensures) (search needs) e
 
 returns-7 : tie.Need-returns-7
 returns-7 c =
-    let compared = c .before .before .before .before in
-    let term-at = compared .before .before .before .before .before .before .before in
-    let if6 = term-at .before .before .before in
-    let if2 = if6 .before .before .before .before in
-    let if1 = if2 .before .before in
-    let token-at = if1 .before .before .before .before in
-    let start = token-at .before .before .before .before .before in
-    literal-compared (start .args .program .now) (start .args .output .now) (start .args .names .now) (start .args .variables .now) (start .args .cursor) (start .pre) _ (token-at .token-at .ensures) _ _ _ (term-at .term-at .ensures) (if1 .if1 .left) (if2 .if2 .left) (if6 .if6 .left) _ _ _ (compared .compared .ensures)
+    let if6 = c .before .before .before .before .before .before .before .before .before .before .before .before .before .before in
+    let token-at = c .before .before .before .before .before .before .before .before .before .before .before .before .before .before .before .before .before .before .before .before .before .before .before .before in
+    let start = c .before .before .before .before .before .before .before .before .before .before .before .before .before .before .before .before .before .before .before .before .before .before .before .before .before .before .before .before .before in
+    literal-compared (start .args .program .now) (start .args .output .now) (start .args .names .now) (start .args .variables .now) (start .args .cursor) (start .pre) _ (token-at .token-at .ensures) _ _ _ (c .before .before .before .before .before .before .before .before .before .before .before .term-at .ensures) (c .before .before .before .before .before .before .before .before .before .before .before .before .before .before .before .before .before .before .before .before .if1 .left) (c .before .before .before .before .before .before .before .before .before .before .before .before .before .before .before .before .before .before .if2 .left) (inv (if6 .before .begins-term .ensures) ∙ not-false _ (if6 .if6 .left)) _ _ _ (c .before .before .before .before .compared .ensures)
 
 pub literal-at-spec : {M : Type 1} → statement M
 literal-at-spec =
@@ -143,6 +141,7 @@ literal-at-spec =
     (λ c. search needs)
     (λ c. search needs)
     returns-5
+    (λ c κs. search needs)
     (λ c κs. search needs)
     returns-6
     term-at-requires

@@ -3,8 +3,8 @@ use native.Mathlib.Omega.{arith}
 use mathlib.Core.Bool.{false}
 use mathlib.Core.Path.{sym as inv, _∙_, refl}
 use Rattle.rows.proofs.Growth.{room-less}
-use Rattle.names.proofs.Numbered.{grown-coded-name}
-use Rattle.rows.proofs.Terms.{name-below, name-coded}
+use Rattle.names.proofs.Numbered.{grown-coded-name, interned-below}
+use Rattle.rows.proofs.Terms.{name-coded}
 use Rattle.syntax.proofs.Tokens.{within, forward, past-here, past-countable}
 use Rattle.terms.proofs.TermLaws.{name-filled}
 use Rattle.literals.proofs.LiteralLaws.{name-stops, ready-name, name-compared, name-atom}
@@ -27,7 +27,7 @@ name-number-requires c κs =
 add-left : tie.Need-add-left
 add-left c =
     let name-number = c .before .before .before .before .before .before .before in
-    omega (arith, name-below _ _ _ _ _ _ (name-number .name-number .ensures))
+    omega (arith, interned-below _ _ _ _ _ _ (name-number .name-number .ensures))
 
 past-requires : tie.Need-past-requires
 past-requires c κs =
@@ -68,7 +68,7 @@ named-atom-requires c κs =
     let past = onward .before in
     let name-number = past .before .before .before in
     let start = name-number .before .before .before .before .before .before .before .before in
-    record { ready = rw (onward .onward .ensures, past .past .ensures) (ready-name (start .args .program .now) (start .args .output .now) (start .args .names .now) (start .args .variables .now) (start .args .cursor) (start .pre .ready) _ (start .pre .is-token) (start .pre .is-name) _ _ (name-number .name-number .ensures) .ready); small = name-below _ _ _ _ _ _ (name-number .name-number .ensures); bytes = _; stands = grown-coded-name _ _ _ _ (name-number .name-number .ensures .1) }
+    record { ready = rw (onward .onward .ensures, past .past .ensures) (ready-name (start .args .program .now) (start .args .output .now) (start .args .names .now) (start .args .variables .now) (start .args .cursor) (start .pre .ready) _ (start .pre .is-token) (start .pre .is-name) _ _ (name-number .name-number .ensures) .ready); small = interned-below _ _ _ _ _ _ (name-number .name-number .ensures); bytes = _; stands = grown-coded-name _ _ _ _ (name-number .name-number .ensures .1) }
 
 returns-3 : tie.Need-returns-3
 returns-3 c =
