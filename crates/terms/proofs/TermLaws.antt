@@ -5,7 +5,7 @@ use mathlib.Core.List.{List, [], _∷_, _++_, map}
 use Prim.Native.Nat.{ℕ, zero, suc, _+_, _-_, _≤_, _<_}
 use native.Mathlib.Omega.{arith}
 use lib.Dec.{leb}
-use lib.ListN.{length, take, drop}
+use lib.ListN.{length, take, drop, length-take, length-drop}
 use lib.Seq.{take-take}
 use borrow.Author.Tests.{leb-true, lt-leb, le-leb, ne-eqb}
 use Rattle.tokens.specs.declared.place.Place.{Place}
@@ -95,7 +95,7 @@ module _ (ground : Bool) (text : Bytes) (at : ℕ) (t : TokenRead) (et : t ≡ t
 pub negative-wrong : (ground : Bool) (text : Bytes) (at : ℕ) (t : TokenRead) → t ≡ tokenRead ground text at → (t .kind ≡ 4 → ⊥) → (met : ℕ) (r : TermRead) → r ≡ stoppedTerm 2 (t .place) met → ReadsNegative ground text at met r
 negative-wrong ground text at t et ne met r er = rw er (record { same-met = refl; reads = λ v fits. laws.negative-wrong ground false text at t et v ne })
 
--- ---- the bytes of a token
+-- ---- the bytes of a token: a name is not empty ..
 
 pub name-filled : (ground : Bool) (text : Bytes) (at : ℕ) (t : TokenRead) → t ≡ tokenRead ground text at → t .kind ≡ 0 → part text (t .place) ≡ [] → ⊥
 name-filled ground text at t et ek h =
@@ -104,6 +104,13 @@ name-filled ground text at t et ek h =
     let n = part-length ground text at t et in
     let z : length (part text (t .place)) ≡ 0 = ap length h in
     omega arith
+
+-- .. nor is the part that has the first of its bytes
+pub part-filled : (ground : Bool) (text : Bytes) (at : ℕ) (t : TokenRead) → t ≡ tokenRead ground text at → (p : Place) → p .start ≡ t .place .start → 1 ≤ p .len → p .len ≤ t .place .len → part text p ≡ [] → ⊥
+part-filled ground text at t et p same l m h =
+    let w = place-within ground text at t et in
+    let z : length (part text p) ≡ p .len = simp (length-take, length-drop) (omega arith) in
+    omega (arith, ap length h)
 
 -- a string: it has two quotes, and without the closing one it is the opening one and the bytes between
 module _ (ground : Bool) (text : Bytes) (at : ℕ) (t : TokenRead) (et : t ≡ tokenRead ground text at) (ek : t .kind ≡ 22) where
@@ -120,11 +127,6 @@ module _ (ground : Bool) (text : Bytes) (at : ℕ) (t : TokenRead) (et : t ≡ t
       inv (take-take (t .place .len - 1) (t .place .len) (drop (t .place .start) text) (omega arith))
       ∙ ap (λ (n : ℕ). take (n - 1) (part text (t .place))) (inv (part-length ground text at t et))
       ∙ string-opened (part text (t .place)) is-string
-
-  pub opened-filled : part text (with-len (t .place) (t .place .len - 1)) ≡ [] → ⊥
-  opened-filled h =
-      let z : length (quote ∷ between (part text (t .place))) ≡ 0 = ap length (inv string-opened-here ∙ h) in
-      omega arith
 
 -- ---- a variable, in a program
 

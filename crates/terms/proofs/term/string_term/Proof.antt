@@ -3,7 +3,7 @@ use native.Mathlib.Omega.{arith}
 use Rattle.names.proofs.Numbered.{interned-below}
 use Rattle.rows.proofs.Growth.{room-less}
 use Rattle.syntax.proofs.Tokens.{within, forward, past-countable}
-use Rattle.terms.proofs.TermLaws.{string-quotes, opened-filled, string-stops, string-goes}
+use Rattle.terms.proofs.TermLaws.{string-quotes, part-filled, string-stops, string-goes}
 use borrow.Author.Needs.{needs}
 use Rattle.terms.proofs.term.string_term.Statement.{statement}
 use Rattle.terms.proofs.term.string_term.Tie as tie
@@ -26,7 +26,9 @@ sub-with-len c =
 name-number-requires : tie.Need-name-number-requires
 name-number-requires c κs =
     let start = c .before .before .before .before .before .before .before .before .before in
-    ((room-less _ _ 1 (start .pre .ready .ready .room) (omega (arith, within (start .args .cursor .ground) (start .args .text .now) (start .args .cursor .at .start) _ (start .pre .ready .is-token), forward (start .args .cursor .ground) (start .args .text .now) (start .args .cursor .at .start) _ (start .pre .ready .is-token) (λ q. omega (arith, start .pre .is-kind)))), start .pre .ready .ready .source), rw (c .before .with-len .ensures) (opened-filled (start .args .cursor .ground) (start .args .text .now) (start .args .cursor .at .start) _ (start .pre .ready .is-token) (start .pre .is-kind)))
+    let opened = c .before in
+    let quotes = string-quotes (start .args .cursor .ground) (start .args .text .now) (start .args .cursor .at .start) _ (start .pre .ready .is-token) (start .pre .is-kind) in
+    ((room-less _ _ 1 (start .pre .ready .ready .room) (omega (arith, within (start .args .cursor .ground) (start .args .text .now) (start .args .cursor .at .start) _ (start .pre .ready .is-token), forward (start .args .cursor .ground) (start .args .text .now) (start .args .cursor .at .start) _ (start .pre .ready .is-token) (λ q. omega (arith, start .pre .is-kind)))), start .pre .ready .ready .source), part-filled (start .args .cursor .ground) (start .args .text .now) (start .args .cursor .at .start) _ (start .pre .ready .is-token) (opened .with-len .result) (rw (opened .with-len .ensures)) (rw (opened .with-len .ensures) (omega (arith, quotes))) (rw (opened .with-len .ensures) (omega arith)))
 
 add-gone : tie.Need-add-gone
 add-gone c = omega (arith, interned-below _ _ _ _ _ _ (c .before .before .name-number .ensures))
