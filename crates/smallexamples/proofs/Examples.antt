@@ -14,7 +14,7 @@ use Rattle.tokens.specs.Gap.{startsComment, gap}
 use Rattle.tokens.specs.Strings.{between, longer, closing}
 use Rattle.tokens.specs.Number.{decimalAfter}
 use Rattle.tokens.specs.Spelling.{singleKind, pairKind, nameKind}
-use Rattle.tokens.specs.Token.{markAt, stringAt, tokenAt, nextToken}
+use Rattle.tokens.specs.Token.{markAt, stringAt, otherAt, tokenAt, nextToken}
 use Rattle.tokens.specs.Tokens.{tokensUpTo, tokensFrom}
 use Rattle.meaning.specs.Sets.{In, every, any, Each}
 use Rattle.meaning.specs.Rules.{Fact, Rule, predicate}
@@ -45,7 +45,7 @@ use Rattle.smallexamples.proofs.Texts.{fits, tree-of, tree-in, program-
 
 -- to unfold this is to unfold all that reading a text computes with
 read-opened : Unit {0}
-unfolding classOf isBlank prefixLen startsComment gap between longer closing decimalAfter singleKind pairKind nameKind markAt stringAt tokenAt nextToken tokensUpTo tokensFrom every any predicate same-number same-bytes same-value in-term in-atom positives in-positives term-bound side-bound when else gain-left gain next-gain with scan equations bound-after bound same-sign same-predicate same-arguments same-fact then last-bytes ascii value-for values-for argument-values-for fact-for facts-for computing token-of head-variables rule-variables linesAt startsWith report-of out-of-place-of unlike apart every-below all-bound fits tree-of tree-in program-rules is-answer reports-facts is-nothing line-facts output-facts
+unfolding classOf isBlank prefixLen startsComment gap between longer closing decimalAfter singleKind pairKind nameKind markAt stringAt otherAt tokenAt nextToken tokensUpTo tokensFrom every any predicate same-number same-bytes same-value in-term in-atom positives in-positives term-bound side-bound when else gain-left gain next-gain with scan equations bound-after bound same-sign same-predicate same-arguments same-fact then last-bytes ascii value-for values-for argument-values-for fact-for facts-for computing token-of head-variables rule-variables linesAt startsWith report-of out-of-place-of unlike apart every-below all-bound fits tree-of tree-in program-rules is-answer reports-facts is-nothing line-facts output-facts
 read-opened = tt
 
 -- ---- the texts are read as the rules and facts

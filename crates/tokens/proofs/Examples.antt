@@ -12,7 +12,7 @@ use Rattle.tokens.specs.Gap.{startsComment, gap}
 use Rattle.tokens.specs.Strings.{longer, closing}
 use Rattle.tokens.specs.Spelling.{singleKind, pairKind, nameKind}
 use Rattle.tokens.specs.Place.{newlines, since, line-of, column-of}
-use Rattle.tokens.specs.Token.{markAt, stringAt, tokenAt, nextToken}
+use Rattle.tokens.specs.Token.{markAt, stringAt, otherAt, tokenAt, nextToken}
 use Rattle.tokens.specs.Tokens.{tokensUpTo, tokensFrom}
 
 -- a text, whether it is a program or a facts line, and its tokens
@@ -80,5 +80,5 @@ Right [] = Unit {0}
 Right (x ∷ xs) = (tokensFrom (x .program) (x .text) 0 ≡ x .tokens) × Right xs
 
 pub right : Right examples
-unfolding classOf isBlank prefixLen startsComment gap longer closing singleKind pairKind nameKind markAt stringAt tokenAt nextToken tokensUpTo tokensFrom newlines since line-of column-of
+unfolding classOf isBlank prefixLen startsComment gap longer closing singleKind pairKind nameKind markAt stringAt otherAt tokenAt nextToken tokensUpTo tokensFrom newlines since line-of column-of
 right = (refl, (refl, (refl, (refl, (refl, (refl, (refl, (refl, (refl, (refl, (refl, (refl, (refl, (refl, (refl, (refl, (refl, (refl, (refl, (refl, (refl, (refl, (refl, (refl, tt))))))))))))))))))))))))

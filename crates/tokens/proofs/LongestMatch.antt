@@ -21,7 +21,7 @@ use Rattle.tokens.specs.Strings.{quote, closing}
 use Rattle.tokens.specs.Kind.{isStray}
 use Rattle.tokens.specs.Spelling.{singleKind, pairKind, markKind, nameKind, every, numberKind, anonymousKind, stringKind, kindFrom, kindOf}
 use Rattle.tokens.specs.Longest.{Longest}
-use Rattle.tokens.specs.Token.{markAt, stringAt, startAt}
+use Rattle.tokens.specs.Token.{markAt, stringAt, otherAt, startAt}
 use Rattle.tokens.proofs.Every.{prefix-inside, every-prefix, not-every-beyond, not-every-longer}
 use Rattle.tokens.proofs.Strings.{closing-inside, piece-kind}
 use Rattle.tokens.proofs.KindNumber.{is-stray}
@@ -118,6 +118,14 @@ string-longest at b rest e f = go (eqb (closing false rest) 0) refl
     go true q = rw q (from-first b rest stringKind (of-string b e f) Stray 0 (omega arith) refl (λ n l k. piece-kind rest n l k ∙ rw (ne-eqb (closing false rest) n (λ z. omega (arith, eqb-true (closing false rest) 0 q)))) (λ s. refl))
     go false q = let n = closing false rest in rw q (from-first b rest stringKind (of-string b e f) String n (closing-inside false rest) (piece-kind rest n (let z = eqb-false n 0 q in omega arith) (closing-inside false rest) ∙ rw (eq-eqb n n refl)) (λ m l k. piece-kind rest m (omega arith) k ∙ rw (ne-eqb n m (λ z. omega arith))) (λ s. absurd (true≢false (sym s))))
 
+other-longest : (at : Place) (b : ℕ) (rest : List ℕ) → classOf b ≡ Other → Longest (b ∷ rest) (otherAt at b rest .kind) (otherAt at b rest .place .len)
+unfolding otherAt
+other-longest at b rest e = go (eqb b quote) refl
+  where
+    go : (t : Bool) → eqb b quote ≡ t → Longest (b ∷ rest) (otherAt at b rest .kind) (otherAt at b rest .place .len)
+    go true q = rw q (string-longest at b rest e q)
+    go false q = rw q (mark-longest at b rest e q)
+
 pub start-longest : (at : Place) (b : ℕ) (rest : List ℕ) (class : Class) → classOf b ≡ class → Longest (b ∷ rest) (startAt at class b rest .kind) (startAt at class b rest .place .len)
 start-longest at b rest Lower e =
     let n = prefixLen (goesOn Word) rest in
@@ -142,11 +150,7 @@ start-longest at b rest Digit e = go (eqb b 48) refl
         (λ m l k. rw (q, not-every-beyond (goesOn Digits) rest m l k))
         (λ s. absurd (true≢false (sym s))))
 start-longest at b rest Underscore e = from-class b rest Underscore e Anonymous 0 (omega arith) refl (alone anonymousKind (λ c r. refl) rest) (λ s. refl)
-start-longest at b rest Other e = go (eqb b quote) refl
-  where
-    go : (t : Bool) → eqb b quote ≡ t → Longest (b ∷ rest) (startAt at Other b rest .kind) (startAt at Other b rest .place .len)
-    go true q = rw q (string-longest at b rest e q)
-    go false q = rw q (mark-longest at b rest e q)
+start-longest at b rest Other e = other-longest at b rest e
 
 -- ---- there is one longest match
 

@@ -22,7 +22,7 @@ use Rattle.tokens.specs.Spelling.{singleKind, pairKind, nameKind, kindOf
 use Rattle.tokens.specs.Spells.{Spells}
 use Rattle.tokens.specs.Longest.{Longest, Found}
 use Rattle.tokens.specs.Place.{place-from, with-len}
-use Rattle.tokens.specs.Token.{standing, placed, markAt, stringAt, startAt, tokenAt, nextToken}
+use Rattle.tokens.specs.Token.{standing, placed, markAt, stringAt, otherAt, startAt, tokenAt, nextToken}
 use Rattle.tokens.specs.Tokens.{part}
 use Rattle.tokens.proofs.Prefix.{drop-at}
 use Rattle.tokens.proofs.Starts.{end-at, starts-at}
@@ -64,16 +64,20 @@ name-not-end : (len a b c : ℕ) → isEnd (nameKind len a b c) ≡ false
 unfolding nameKind
 name-not-end len a b c = search either
 
+other-not-end : (at : Place) (b : ℕ) (rest : List ℕ) → isEnd (otherAt at b rest .kind) ≡ false
+unfolding otherAt
+other-not-end at b rest = go (eqb b quote)
+  where
+    go : (t : Bool) → isEnd (cond t (stringAt at (closing false rest)) (markAt at b (getD rest 0 0)) .kind) ≡ false
+    go true = string-not-end at (closing false rest)
+    go false = mark-not-end at b (getD rest 0 0)
+
 start-not-end : (at : Place) (class : Class) (b : ℕ) (rest : List ℕ) → isEnd (startAt at class b rest .kind) ≡ false
 start-not-end at Lower b rest = name-not-end _ _ _ _
 start-not-end at Upper b rest = refl
 start-not-end at Digit b rest = refl
 start-not-end at Underscore b rest = refl
-start-not-end at Other b rest = go (eqb b quote)
-  where
-    go : (t : Bool) → isEnd (cond t (stringAt at (closing false rest)) (markAt at b (getD rest 0 0)) .kind) ≡ false
-    go true = string-not-end at (closing false rest)
-    go false = mark-not-end at b (getD rest 0 0)
+start-not-end at Other b rest = other-not-end at b rest
 
 mark-place : (at : Place) (b c : ℕ) → markAt at b c .place ≡ with-len at (markAt at b c .place .len)
 unfolding markAt
@@ -91,16 +95,20 @@ string-place at end = go (eqb end 0)
     go true = refl
     go false = refl
 
+other-place : (at : Place) (b : ℕ) (rest : List ℕ) → otherAt at b rest .place ≡ with-len at (otherAt at b rest .place .len)
+unfolding otherAt
+other-place at b rest = go (eqb b quote)
+  where
+    go : (t : Bool) → cond t (stringAt at (closing false rest)) (markAt at b (getD rest 0 0)) .place ≡ with-len at (cond t (stringAt at (closing false rest)) (markAt at b (getD rest 0 0)) .place .len)
+    go true = string-place at (closing false rest)
+    go false = mark-place at b (getD rest 0 0)
+
 start-place : (at : Place) (class : Class) (b : ℕ) (rest : List ℕ) → startAt at class b rest .place ≡ with-len at (startAt at class b rest .place .len)
 start-place at Lower b rest = refl
 start-place at Upper b rest = refl
 start-place at Digit b rest = refl
 start-place at Underscore b rest = refl
-start-place at Other b rest = go (eqb b quote)
-  where
-    go : (t : Bool) → cond t (stringAt at (closing false rest)) (markAt at b (getD rest 0 0)) .place ≡ with-len at (cond t (stringAt at (closing false rest)) (markAt at b (getD rest 0 0)) .place .len)
-    go true = string-place at (closing false rest)
-    go false = mark-place at b (getD rest 0 0)
+start-place at Other b rest = other-place at b rest
 
 -- ---- the token at a place
 

@@ -3,7 +3,6 @@ use Prim.Native.Nat.{ℕ, suc, _+_, _-_, _<_, _≤_}
 use native.Mathlib.Nat.{add-zero}
 use native.Mathlib.Omega.{arith}
 use mathlib.Core.Path.{_≡_, sym, ap, _∙_}
-use mathlib.Core.Bool.{false}
 use mathlib.Core.List.{List}
 use lib.ListN.{length, getD, drop, drop-of-length-le}
 use lib.Seq.{getD-drop}
@@ -16,9 +15,8 @@ use Rattle.tokens.specs.declared.place.Place.{Place}
 use Rattle.tokens.specs.declared.kind.Kind.the-variants.{Variable, Anonymous, Number, End}
 use Rattle.tokens.specs.Class.{classOf}
 use Rattle.tokens.specs.Run.{goesOn, prefixLen}
-use Rattle.tokens.specs.Strings.{quote, closing}
 use Rattle.tokens.specs.Spelling.{nameKind}
-use Rattle.tokens.specs.Token.{standing, placed, markAt, stringAt, startAt, tokenAt}
+use Rattle.tokens.specs.Token.{standing, placed, markAt, stringAt, otherAt, startAt, tokenAt}
 use Rattle.tokens.specs.Place.{place-from, Stands}
 use Rattle.tokens.proofs.Prefix.{drop-at}
 use Rattle.tokens.proofs.Counting.{line-past, column-past}
@@ -36,13 +34,9 @@ module _ (s : List ℕ) (p : Place) (stands : Stands s p) where
   pub as-placed : (kind : Kind) (len : ℕ) → standing kind p len ≡ placed s kind (p .start) len
   as-placed kind len = rw (stands .line, stands .column)
 
-  pub as-mark : (b c : ℕ) → markAt p b c ≡ markAt (place-from s (p .start) 0) b c
-  unfolding markAt
-  as-mark b c = rw (stands .line, stands .column)
-
-  pub as-string : (end : ℕ) → stringAt p end ≡ stringAt (place-from s (p .start) 0) end
-  unfolding stringAt
-  as-string end = rw (stands .line, stands .column)
+  pub as-other : (b : ℕ) (rest : List ℕ) → otherAt p b rest ≡ otherAt (place-from s (p .start) 0) b rest
+  unfolding otherAt stringAt markAt
+  as-other b rest = rw (stands .line, stands .column)
 
   pub as-end : length s ≤ p .start → standing End (record { start = length s; len = 0; line = p .line; column = p .column }) 0 ≡ placed s End (length s) 0
   as-end h = rw (stands .line, stands .column, line-past s (p .start) h, column-past s (p .start) h)
@@ -79,8 +73,5 @@ module _ (s : List ℕ) (at : ℕ) (h : at < length s) (class : Class) (e : clas
   pub anonymous-at : class ≡ Underscore → placed s Anonymous at 1 ≡ tokenAt s at
   anonymous-at q = rw (by-class Underscore q)
 
-  pub string-at : class ≡ Other → getD s at 0 ≡ quote → stringAt (place-from s at 0) (closing false (drop (at + 1) s)) ≡ tokenAt s at
-  string-at q f = rw (by-class Other q, eq-eqb _ _ f)
-
-  pub mark-at : class ≡ Other → (getD s at 0 ≡ quote → ⊥) → (b : ℕ) → b ≡ getD s (at + 1) 0 → markAt (place-from s at 0) (getD s at 0) b ≡ tokenAt s at
-  mark-at q f b eb = rw (by-class Other q, ne-eqb _ _ f, eb, second)
+  pub other-at : class ≡ Other → otherAt (place-from s at 0) (getD s at 0) (drop (at + 1) s) ≡ tokenAt s at
+  other-at q = rw (by-class Other q)

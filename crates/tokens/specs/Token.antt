@@ -35,6 +35,10 @@ markAt at b c = cond (isStray (pairKind b c)) (standing (singleKind b) at 1) (st
 unfoldable pub stringAt : Place → ℕ → Token
 stringAt at end = cond (eqb end 0) (standing Stray at 1) (standing String at (suc end))
 
+-- a string or a mark, by the byte at the place and the bytes after it
+unfoldable pub otherAt : Place → ℕ → List ℕ → Token
+otherAt at b rest = cond (eqb b quote) (stringAt at (closing false rest)) (markAt at b (getD rest 0 0))
+
 -- the longest token at a place, by the class of the byte there, that byte, and the bytes after it
 abbrev pub startAt : Place → Class → ℕ → List ℕ → Token
 startAt at Lower b rest =
@@ -43,7 +47,7 @@ startAt at Lower b rest =
 startAt at Upper b rest = standing Variable at (suc (prefixLen (goesOn Word) rest))
 startAt at Digit b rest = standing Number at (cond (eqb b 48) 1 (suc (prefixLen (goesOn Digits) rest)))
 startAt at Underscore b rest = standing Anonymous at 1
-startAt at Other b rest = cond (eqb b quote) (stringAt at (closing false rest)) (markAt at b (getD rest 0 0))
+startAt at Other b rest = otherAt at b rest
 
 -- the token at a place of a text, by what is left of the text there
 abbrev pub tokenFrom : List ℕ → ℕ → List ℕ → Token

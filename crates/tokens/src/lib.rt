@@ -5,7 +5,7 @@ ghost use Prim.Native.Nat.{_+_, _<_};
 ghost use lib.ListN.{length, drop};
 ghost use Rattle.tokens.specs.Place.{Stands};
 ghost use Rattle.tokens.specs.Strings.{closing};
-ghost use Rattle.tokens.specs.Token.{standing, markAt, stringAt, tokenAt, nextToken};
+ghost use Rattle.tokens.specs.Token.{standing, markAt, stringAt, otherAt, tokenAt, nextToken};
 use class::Class;
 use class::class_of;
 use kind::Kind;
@@ -71,6 +71,17 @@ fn string_at(text: &[u8], at: Place) -> Token
     placed(Kind::String, at, end + 1)
 }
 
+// The string or the mark that starts at `at` with the byte `first`.
+fn other_at(text: &[u8], at: Place, first: u8) -> Token
+    requires { ⌜ at .start < length (now text) ⌝ }
+    ensures { λ r. ⌜ r ≡ otherAt at first (drop (at .start + 1) (now (text .entry))) ⌝ }
+{
+    if first == b'"' {
+        return string_at(text, at);
+    }
+    mark_at(at, first, byte_at(text, at.start + 1))
+}
+
 // The longest token that starts at `at`, or one stray byte; the end at the text's length.
 fn token_at(text: &[u8], at: Place) -> Token
     requires { ⌜ Stands (now text) at ⌝ }
@@ -106,12 +117,7 @@ fn token_at(text: &[u8], at: Place) -> Token
             placed(Kind::Number, at, len)
         }
         Class::Underscore => placed(Kind::Anonymous, at, 1),
-        Class::Other => {
-            if first == b'"' {
-                return string_at(text, at);
-            }
-            mark_at(at, first, byte_at(text, next))
-        }
+        Class::Other => other_at(text, at, first),
     }
 }
 
