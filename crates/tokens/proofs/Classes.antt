@@ -1,12 +1,12 @@
--- Laws of `classOf`: the class of a byte from bounds on it, and whether it goes on a word.
+-- Laws of `classOf`: the class of a byte from bounds on it.
 use Prim.Native.Nat.{ℕ, _≤_, _<_}
 use native.Mathlib.Omega.{arith}
 use mathlib.Core.Bool.{Bool, true, false, cond, _&&_}
 use mathlib.Core.Path.{_≡_, refl}
 use lib.Dec.{leb, eqb}
-use borrow.Author.Tests.{le-leb, lt-leb, leb-true, leb-false, eqb-true, eqb-false, ne-eqb}
+use borrow.Author.Tests.{le-leb, lt-leb, leb-true, eqb-true, ne-eqb}
 use Rattle.tokens.specs.declared.class.Class.the-variants.{Lower, Upper, Digit, Underscore, Other}
-use Rattle.tokens.specs.Class.{classOf, isWord}
+use Rattle.tokens.specs.Class.{classOf}
 
 in-range : (low high b : ℕ) → low ≤ b → b ≤ high → (leb low b && leb b high) ≡ true
 in-range low high b h k = rw (le-leb low b h, le-leb b high k)
@@ -34,36 +34,6 @@ module _ (b : ℕ) where
   pub class-other : (97 ≤ b → 122 < b) → (65 ≤ b → 90 < b) → (48 ≤ b → 57 < b) → (b ≡ 95 → ⊥) → classOf b ≡ Other
   unfolding classOf
   class-other l u d n = rw (out-of-range 97 122 b l, out-of-range 65 90 b u, out-of-range 48 57 b d, ne-eqb b 95 n)
-
-  -- ---- whether it goes on a word, by its value
-
-  pub word-below : b < 48 → isWord (classOf b) ≡ false
-  word-below h = rw (class-other (λ l. omega arith) (λ l. omega arith) (λ l. omega arith) (λ e. omega arith))
-
-  pub word-digit : 48 ≤ b → b ≤ 57 → isWord (classOf b) ≡ true
-  word-digit h k = rw (class-digit h k)
-
-  pub word-capital : 57 < b → b ≤ 90 → isWord (classOf b) ≡ leb 65 b
-  word-capital h k = go (leb 65 b) refl
-    where
-      go : (t : Bool) → leb 65 b ≡ t → isWord (classOf b) ≡ t
-      go true e = rw (class-upper (leb-true 65 b e) k)
-      go false e = let l = leb-false 65 b e in rw (class-other (λ z. omega arith) (λ z. omega arith) (λ z. omega arith) (λ z. omega arith))
-
-  pub word-between : 90 < b → b < 97 → isWord (classOf b) ≡ eqb b 95
-  unfolding classOf
-  word-between h k = go (eqb b 95) refl
-    where
-      go : (t : Bool) → eqb b 95 ≡ t → isWord (classOf b) ≡ t
-      go true e = rw (eqb-true b 95 e)
-      go false e = rw (class-other (λ z. omega arith) (λ z. omega arith) (λ z. omega arith) (eqb-false b 95 e))
-
-  pub word-letter : 97 ≤ b → isWord (classOf b) ≡ leb b 122
-  word-letter h = go (leb b 122) refl
-    where
-      go : (t : Bool) → leb b 122 ≡ t → isWord (classOf b) ≡ t
-      go true e = rw (class-lower h (leb-true b 122 e))
-      go false e = let l = leb-false b 122 e in rw (class-other (λ z. omega arith) (λ z. omega arith) (λ z. omega arith) (λ z. omega arith))
 
 -- and the one byte that is an underscore
 pub underscore-byte : (b : ℕ) → classOf b ≡ Underscore → b ≡ 95

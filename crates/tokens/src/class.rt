@@ -11,36 +11,49 @@ pub enum Class {
     Other,
 }
 
-// The class of a byte: ranges for letters and digits, the underscore, and one answer for every other byte.
+// The class of a byte: ranges for letters and digits, the underscore, and one answer for every other byte. What is below the digits is told
+// first, for most tokens are marks, and the small letters next, for most bytes of names are.
 pub fn class_of(byte: u8) -> Class
     ensures { λ r. ⌜ r ≡ classOf byte ⌝ }
 {
-    match byte {
-        b'a'..=b'z' => Class::Lower,
-        b'A'..=b'Z' => Class::Upper,
-        b'0'..=b'9' => Class::Digit,
-        b'_' => Class::Underscore,
-        _ => Class::Other,
+    if byte < b'0' {
+        return Class::Other;
+    }
+    if b'a' <= byte {
+        return if byte <= b'z' {
+            Class::Lower
+        } else {
+            Class::Other
+        };
+    }
+    if byte <= b'9' {
+        return Class::Digit;
+    }
+    if byte <= b'Z' {
+        return if b'A' <= byte {
+            Class::Upper
+        } else {
+            Class::Other
+        };
+    }
+    if byte == b'_' {
+        Class::Underscore
+    } else {
+        Class::Other
     }
 }
 
-// Does the byte go on a name or a variable? By its value, the small letters soon: most bytes of names are.
-pub(crate) fn in_word(byte: u8) -> bool
-    ensures { λ r. ⌜ r ≡ isWord (classOf byte) ⌝ }
+// Does a byte of the class go on a name or a variable?
+pub(crate) fn is_word(class: Class) -> bool
+    ensures { λ r. ⌜ r ≡ isWord class ⌝ }
 {
-    if byte < b'0' {
-        return false;
+    match class {
+        Class::Lower => true,
+        Class::Upper => true,
+        Class::Digit => true,
+        Class::Underscore => true,
+        Class::Other => false,
     }
-    if b'a' <= byte {
-        return byte <= b'z';
-    }
-    if byte <= b'9' {
-        return true;
-    }
-    if byte <= b'Z' {
-        return b'A' <= byte;
-    }
-    byte == b'_'
 }
 
 // Is a byte of the class a digit?

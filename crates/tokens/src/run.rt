@@ -4,8 +4,8 @@ ghost use Prim.Native.Nat.{_+_};
 ghost use lib.ListN.{drop, getD};
 ghost use Rattle.tokens.specs.Run.{isBlank, goesOn, prefixLen};
 use crate::class::class_of;
-use crate::class::in_word;
 use crate::class::is_digit;
+use crate::class::is_word;
 
 // The sorts of bytes that make a run.
 pub enum Run {
@@ -36,7 +36,7 @@ fn goes_on(run: Run, byte: u8) -> bool
     match run {
         Run::LineBlanks => is_blank(byte, false),
         Run::Line => byte != b'\n',
-        Run::Word => in_word(byte),
+        Run::Word => is_word(class_of(byte)),
         Run::Digits => is_digit(class_of(byte)),
     }
 }

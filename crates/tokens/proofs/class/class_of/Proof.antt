@@ -8,43 +8,29 @@ use Rattle.tokens.proofs.class.class_of.Statement.{statement}
 use Rattle.tokens.proofs.class.class_of.Tie as tie
 
 returns : tie.Need-returns
-unfolding classOf
-returns c = sym (ap classOf (c .match .keys1))
+returns c = sym (class-other (c .before .args .byte) (λ l. omega arith) (λ u. omega arith) (λ d. omega arith) (λ n. omega arith))
 
 returns-2 : tie.Need-returns-2
-returns-2 c =
-    let b = c .before .before .before .args .byte in
-    sym (class-digit b (omega arith) (omega arith))
+returns-2 c = sym (class-lower (c .before .before .before .args .byte) (omega arith) (omega arith))
 
 returns-3 : tie.Need-returns-3
-returns-3 c =
-    let b = c .before .before .before .before .before .args .byte in
-    sym (class-upper b (omega arith) (omega arith))
+returns-3 c = sym (class-other (c .before .before .before .args .byte) (λ l. omega arith) (λ u. omega arith) (λ d. omega arith) (λ n. omega arith))
 
 returns-4 : tie.Need-returns-4
-returns-4 c =
-    let b = c .before .before .before .before .before .before .before .args .byte in
-    sym (class-lower b (omega arith) (omega arith))
+returns-4 c = sym (class-digit (c .before .before .before .args .byte) (omega arith) (omega arith))
 
 returns-5 : tie.Need-returns-5
-returns-5 c =
-    let b = c .before .before .args .byte in
-    sym (class-other b (λ l. omega arith) (λ u. omega arith) (λ d. omega arith) (c .before .match .rest .1))
+returns-5 c = sym (class-upper (c .before .before .before .before .before .args .byte) (omega arith) (omega arith))
 
 returns-6 : tie.Need-returns-6
-returns-6 c =
-    let b = c .before .before .before .before .args .byte in
-    sym (class-other b (λ l. omega arith) (λ u. omega arith) (λ d. omega arith) (c .before .before .before .match .rest .1))
+returns-6 c = sym (class-other (c .before .before .before .before .before .args .byte) (λ l. omega arith) (λ u. omega arith) (λ d. omega arith) (λ n. omega arith))
 
 returns-7 : tie.Need-returns-7
-returns-7 c =
-    let b = c .before .before .before .before .before .before .args .byte in
-    sym (class-other b (λ l. omega arith) (λ u. omega arith) (λ d. omega arith) (c .before .before .before .before .before .match .rest .1))
+unfolding classOf
+returns-7 c = sym (ap classOf (c .if7 .taken))
 
 returns-8 : tie.Need-returns-8
-returns-8 c =
-    let b = c .before .before .before .before .before .before .before .args .byte in
-    sym (class-other b (λ l. omega arith) (λ u. omega arith) (λ d. omega arith) (c .before .before .before .before .before .before .match .rest .1))
+returns-8 c = sym (class-other (c .before .before .before .before .before .args .byte) (λ l. omega arith) (λ u. omega arith) (λ d. omega arith) (λ n. omega arith))
 
 pub class-of-spec : {M : Type 1} → statement M
 class-of-spec =

@@ -4,7 +4,7 @@ use mathlib.Core.Path.{sym, ap, _∙_}
 use borrow.Author.Needs.{needs}
 use Rattle.tokens.specs.declared.run.Run.{Run}
 use Rattle.tokens.specs.Run.{inLine, goesOn}
-use Rattle.tokens.specs.Class.{isDigit}
+use Rattle.tokens.specs.Class.{isWord, isDigit}
 use Rattle.tokens.proofs.run.goes_on.Statement.{statement}
 use Rattle.tokens.proofs.run.goes_on.Tie as tie
 
@@ -16,10 +16,10 @@ unfolding inLine
 returns-2 c = ap (λ (r : Run). goesOn r (c .before .before .args .byte)) (sym (c .enum-told2 .given .1))
 
 returns-3 : tie.Need-returns-3
-returns-3 c = c .in-word .ensures ∙ ap (λ (r : Run). goesOn r (c .before .before .before .args .byte)) (sym (c .before .enum-told3 .given .1))
+returns-3 c = c .is-word .ensures ∙ ap isWord (c .before .class-of .ensures) ∙ ap (λ (r : Run). goesOn r (c .before .before .before .before .args .byte)) (sym (c .before .before .enum-told3 .given .1))
 
 returns-4 : tie.Need-returns-4
-returns-4 c = c .is-digit .ensures ∙ ap isDigit (c .before .class-of .ensures) ∙ ap (λ (r : Run). goesOn r (c .before .before .before .before .args .byte)) (sym (c .before .before .enum-told4 .given .1))
+returns-4 c = c .is-digit .ensures ∙ ap isDigit (c .before .class-of2 .ensures) ∙ ap (λ (r : Run). goesOn r (c .before .before .before .before .args .byte)) (sym (c .before .before .enum-told4 .given .1))
 
 pub goes-on-spec : {M : Type 1} → statement M
 goes-on-spec =
@@ -29,6 +29,7 @@ goes-on-spec =
     (λ c κs. search needs)
     (λ c. search needs)
     (λ c. search needs)
+    (λ c κs. search needs)
     (λ c κs. search needs)
     (λ c. search needs)
     (λ c κs. search needs)
