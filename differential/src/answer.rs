@@ -59,8 +59,10 @@ pub const OUT_OF_RANGE: u8 = 8;
 pub const NO_ROOM: u8 = 9;
 /// The solver's code and its report disagree.
 pub const CODE_DISAGREES: u8 = 10;
+/// A rule has several heads, and the candidate too many facts for the test of every subset.
+pub const TOO_MANY_FOR_SUBSETS: u8 = 12;
 
-/// What a call answers. Rules and positions count from 1.
+/// What a call answers. Rules and positions count from 1; where there are no rounds, none is written.
 #[derive(Clone, Debug, PartialEq, Eq)]
 pub enum Answer {
     Accepted { atoms: usize, rounds: usize },

@@ -1,14 +1,17 @@
 //! The order of refusals and verdicts: the whole check, and the writer.
 
-use crate::answer::{Answer, Part, Refusal, Text, NO_ROOM, OUT_OF_RANGE};
+use crate::answer::{Answer, Part, Refusal, Text, NO_ROOM, OUT_OF_RANGE, TOO_MANY_FOR_SUBSETS};
 use crate::grammar::{self, PlacedFact};
-use crate::meaning::matchings::Candidate;
-use crate::meaning::Outcome;
+use crate::meaning::matchings::{self, Candidate};
+use crate::meaning::{subsets, Outcome};
 use crate::output::{self, Report};
 use crate::plain;
 use crate::rules::{Fact, Rule};
 use crate::safety;
 use crate::wrong::{self, Wrong};
+
+/// Facts that a candidate may have beside a rule with several heads.
+const MOST_TESTED_FACTS: usize = 20;
 
 /// A way to settle what a candidate means.
 pub type Settle = fn(&[Rule], &[Fact]) -> Outcome;
@@ -39,8 +42,13 @@ fn checked(lent: Lent, places: &mut [u16], settle: Settle) -> Result<Answer, Ref
     consistent(lent, &report)?;
     match report {
         Report::Answer(facts) => {
-            enough_places(&facts, places)?;
+            let enough = enough_places(&facts, places);
             let facts: Vec<Fact> = facts.into_iter().map(|placed| placed.fact).collect();
+            let few = few_for_subsets(&rules, &facts);
+            match wrong::is(Wrong::SubsetsBeforeRoom) {
+                true => few.and(enough)?,
+                false => enough.and(few)?,
+            }
             verdict(&rules, settle(&rules, &facts), places)
         }
         Report::Inconsistent => Ok(Answer::ClaimedNone),
@@ -93,6 +101,32 @@ fn enough_places(facts: &[PlacedFact], places: &[u16]) -> Result<(), Refusal> {
     Ok(())
 }
 
+/// Refuses a candidate that has too many subsets for the test of each: whatever the verdict would be, and before 8.
+pub fn few_for_subsets(rules: &[Rule], facts: &[Fact]) -> Result<(), Refusal> {
+    let most = match () {
+        () if wrong::is(Wrong::SubsetsOf21) => MOST_TESTED_FACTS + 1,
+        () if wrong::is(Wrong::SubsetsOf19) => MOST_TESTED_FACTS - 1,
+        () => MOST_TESTED_FACTS,
+    };
+    if facts.len() <= most {
+        return Ok(());
+    }
+    let candidate = Candidate::new(facts);
+    if !subsets::several_heads(rules, &candidate) {
+        return Ok(());
+    }
+    let settled = match () {
+        () if wrong::is(Wrong::SubsetsAfterRange) => matchings::first_out_of_range(rules, &candidate),
+        () if wrong::is(Wrong::SubsetsAfterBroken) => matchings::first_broken(rules, &candidate),
+        () => None,
+    };
+    if settled.is_some() {
+        return Ok(());
+    }
+    let text = if wrong::is(Wrong::SubsetsInProgram) { Text::Program } else { Text::Output };
+    Err(Refusal { number: TOO_MANY_FOR_SUBSETS, part: Part::empty(text, 0) })
+}
+
 fn no_room(text: Text) -> Refusal {
     Refusal { number: NO_ROOM, part: Part::empty(text, 0) }
 }
@@ -111,6 +145,12 @@ fn verdict(rules: &[Rule], outcome: Outcome, places: &mut [u16]) -> Result<Answe
         Outcome::Accepted { rounds, each } => {
             write_rounds(&each, places);
             Ok(Answer::Accepted { atoms: each.len(), rounds })
+        }
+        Outcome::Minimal { atoms } => {
+            if wrong::is(Wrong::WritesForHeads) {
+                write_rounds(&vec![1; atoms], places);
+            }
+            Ok(Answer::Accepted { atoms, rounds: 0 })
         }
     }
 }

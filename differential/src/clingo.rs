@@ -5,13 +5,13 @@ use std::collections::HashSet;
 use std::io::{self, Write};
 
 use crate::batch;
-use crate::check::read_program;
+use crate::check::{few_for_subsets, read_program};
 use crate::compare::honest;
 use crate::frames::Case;
 use crate::generate::candidates::spelled;
 use crate::generate::solve::{ground, Grounded};
 use crate::generate::strings::bytes_of;
-use crate::generate::{kinds, numbers, shapes, traces};
+use crate::generate::{heads, kinds, numbers, shapes, traces};
 use crate::lexer::{tokens, Kind, Language};
 use crate::meaning::matchings::Candidate;
 use crate::plain::plain_form;
@@ -37,9 +37,11 @@ struct Judged {
 /// Compares so many programs; whether all agreed.
 pub fn run(path: &str, command: &[String], seed: u64, count: u64) -> io::Result<bool> {
     let mut judged = Vec::new();
+    let mut several = 0;
     for number in 0..count {
         let mut random = Random::for_case(seed, number);
         let (program, grounded) = shared_program(&mut random);
+        several += usize::from(tokens(&program, Language::Program).iter().any(|token| token.kind == Kind::Or));
         let found = answer_sets(path, &program)?;
         for set in candidates(&mut random, &grounded, &found) {
             let answer_set = found.contains(&sorted(&set));
@@ -47,7 +49,8 @@ pub fn run(path: &str, command: &[String], seed: u64, count: u64) -> io::Result<
         }
     }
     let accepted = judged.iter().filter(|one| one.answer_set).count();
-    writeln!(io::stdout(), "{count} programs, {} candidates, {accepted} of them answer sets", judged.len())?;
+    writeln!(io::stdout(), "{count} programs, {several} of them with several heads")?;
+    writeln!(io::stdout(), "{} candidates, {accepted} of them answer sets", judged.len())?;
     let own: Vec<Vec<u8>> = judged.iter().map(|one| honest(&one.case)).collect();
     let mut agree = report("the independent checker", &judged, &own)?;
     if !command.is_empty() {
@@ -62,12 +65,16 @@ pub fn run(path: &str, command: &[String], seed: u64, count: u64) -> io::Result<
 /// A program whose meaning is the same to clingo, and what it can derive.
 fn shared_program(random: &mut Random) -> (Vec<u8>, Grounded) {
     loop {
-        let rules = match random.below(12) {
+        let rules = match random.below(19) {
             0..=3 => traces::transfers(random),
             4 => shapes::negation(random),
             5 => numbers::arithmetic(random),
             6 | 7 => shapes::mixed(random),
-            _ => kinds::comparisons(random),
+            8..=11 => kinds::comparisons(random),
+            12..=14 => heads::letters(random),
+            15 => heads::branches(random),
+            16 | 17 => heads::sites(random),
+            _ => heads::values(random),
         };
         let mut text = bytes_of(&rules.concat());
         if random.chance(60) {
@@ -75,7 +82,8 @@ fn shared_program(random: &mut Random) -> (Vec<u8>, Grounded) {
         }
         let Ok(rules) = read_program(&text) else { continue };
         let grounded = ground(&rules);
-        let small = grounded.complete && grounded.possible.len() <= MOST_POSSIBLE;
+        let few = grounded.possible.len() <= MOST_POSSIBLE && few_for_subsets(&rules, &grounded.possible).is_ok();
+        let small = grounded.complete && few;
         if small && means_the_same(&rules, &grounded.possible) {
             return (plain_form(&rules), grounded);
         }

@@ -124,7 +124,32 @@ const STRINGS: &[Checked] = &[
     ("p(1,2,3,4,5,6,7,8,\"a\").", "UNKNOWN", 1, "REFUSED 4 program 18 3 1 19 kept"),
 ];
 
+/// Several heads: how they are read, and every proper subset.
+const HEADS: &[Checked] = &[
+    ("a|b.a:-b.b:-a.", "ANSWER\na. b.", 10, "ACCEPTED program 0 0 1 1 atoms 2 rounds 0 each kept"),
+    ("a|b.", "ANSWER\nb.", 10, "ACCEPTED program 0 0 1 1 atoms 1 rounds 0 each kept"),
+    ("a|b.", "ANSWER\na. b.", 10, "SMALLER program 0 0 1 1 atoms 1 kept"),
+    ("a|b.", "ANSWER\nb. a.", 10, "SMALLER program 0 0 1 1 atoms 1 kept"),
+    ("a|b.c:-a.d:-a.", "ANSWER\na. c. d. b.", 10, "SMALLER program 0 0 1 1 atoms 1 2 3 kept"),
+    ("a|b.", "ANSWER\nc.", 10, "UNSATISFIED program 0 0 1 1 rule 1 body kept"),
+    ("a|a.", "ANSWER\na.", 10, "ACCEPTED program 0 0 1 1 atoms 1 rounds 0 each kept"),
+    ("b|c:-d.a.", "ANSWER\na.", 10, "ACCEPTED program 0 0 1 1 atoms 1 rounds 0 each kept"),
+    ("b|c:-d.", "ANSWER\n\n", 10, "ACCEPTED program 0 0 1 1 atoms 0 rounds 0 each kept"),
+    ("p(X)|p(Y):-q(X),q(Y).q(1).", "ANSWER\nq(1). p(1).", 10, "ACCEPTED program 0 0 1 1 atoms 2 rounds 0 each kept"),
+    ("a:-not b.b:-not a.c|d.", "ANSWER\na. b. c.", 10, "SMALLER program 0 0 1 1 atoms 3 kept"),
+    ("-a|a.", "ANSWER\n-a. a.", 10, "REFUSED 7 output 11 2 2 5 kept"),
+    ("p(X)|q(Y):-r(X).", "UNKNOWN", 1, "REFUSED 5 program 7 1 1 8 kept"),
+    ("a|b|c|d|-e.", "UNKNOWN", 1, "REFUSED 4 program 8 1 1 9 kept"),
+    ("a|b|c|d|.", "UNKNOWN", 1, "REFUSED 2 program 8 1 1 9 kept"),
+    ("a||b.", "UNKNOWN", 1, "REFUSED 2 program 2 1 1 3 kept"),
+    ("|a.", "UNKNOWN", 1, "REFUSED 2 program 0 1 1 1 kept"),
+    ("a:-b|c.", "UNKNOWN", 1, "REFUSED 2 program 4 1 1 5 kept"),
+    ("a v b.", "UNKNOWN", 1, "REFUSED 2 program 2 1 1 3 kept"),
+    ("", "ANSWER\na|b.", 10, "REFUSED 2 output 8 1 2 2 kept"),
+];
+
 const FORMS: &[Written] = &[
+    (" a | -b()\n|%\n p( X ) :- q(X) . ", 17, "WRITTEN program 0 0 1 1 length 16 kept\na|-b|p(X):-q(X).\n"),
     ("p( \" %\" ):-\"\\\"\"  <>  \"\" .", 19, "WRITTEN program 0 0 1 1 length 18 kept\np(\" %\"):-\"\\\"\"!=\"\".\n"),
     ("", 0, "WRITTEN program 0 0 1 1 length 0 kept\n\n"),
     ("a :- not\n b, X <> - 0, q( X ) . % c", 20, "WRITTEN program 0 0 1 1 length 19 kept\na:-not b,X!=0,q(X).\n"),
@@ -146,6 +171,7 @@ pub fn all() -> Vec<(Case, Vec<u8>)> {
         .iter()
         .chain(PLACES)
         .chain(STRINGS)
+        .chain(HEADS)
         .map(|(program, output, code, line)| (check(program, output, *code), format!("{line}\n").into_bytes()));
     let forms = FORMS.iter().map(|(program, room, answer)| {
         let program = program.as_bytes().to_vec();

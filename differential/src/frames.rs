@@ -141,6 +141,7 @@ fn pattern(place: usize) -> u16 {
 
 fn check_line(texts: Texts, answer: &Answer, lent: &[u16]) -> Vec<u8> {
     let written = match answer {
+        Answer::Accepted { rounds: 0, .. } => 0,
         Answer::Accepted { atoms, .. } => *atoms,
         _ => 0,
     };

@@ -2,6 +2,7 @@
 
 pub mod candidates;
 mod damage;
+pub mod heads;
 pub mod kinds;
 pub mod numbers;
 mod outputs;
@@ -12,23 +13,26 @@ pub mod strings;
 mod style;
 pub mod traces;
 
-use crate::check::{read_program, rules_and_facts};
+use crate::check::{few_for_subsets, read_program, rules_and_facts};
 use crate::frames::{Case, MOST_LENGTH, MOST_PLACES};
 use crate::lexer::Language;
 use crate::meaning::matchings::Candidate;
+use crate::meaning::subsets;
 use crate::plain::plain_form;
 use crate::random::Random;
 use crate::rules::{Fact, Rule};
 
 /// Matchings that a case's rules may have together at most.
 const MOST_WORK: usize = 100_000;
+/// Facts beside several heads from which on half of the cases are kept, for each fact doubles the work.
+const MANY_FOR_SUBSETS: usize = 15;
 
 /// The case of a number under a seed.
 pub fn case(seed: u64, number: u64) -> Case {
     let mut random = Random::for_case(seed, number);
     loop {
         let case = draw(&mut random);
-        if is_small_enough(&case) {
+        if is_small_enough(&case) && (!has_many_subsets(&case) || random.chance(50)) {
             return case;
         }
     }
@@ -82,9 +86,18 @@ fn work(program: &[u8], output: &[u8]) -> usize {
     rules.iter().fold(0, |sum: usize, rule| sum.saturating_add(candidate.work(rule)))
 }
 
+/// Whether every subset of many facts is to be tested.
+fn has_many_subsets(case: &Case) -> bool {
+    let Case::Check { program, output, .. } = case else { return false };
+    let Some((rules, facts)) = rules_and_facts(program, output) else { return false };
+    facts.len() >= MANY_FOR_SUBSETS
+        && few_for_subsets(&rules, &facts).is_ok()
+        && subsets::several_heads(&rules, &Candidate::new(&facts))
+}
+
 /// A program's text by a random theme.
 fn program(random: &mut Random) -> Vec<u8> {
-    let mut rules = match random.below(100) {
+    let mut rules = match random.below(115) {
         0..=29 => traces::transfers(random),
         30..=42 => shapes::negation(random),
         43..=61 => numbers::arithmetic(random),
@@ -93,10 +106,17 @@ fn program(random: &mut Random) -> Vec<u8> {
         88..=91 => numbers::equations(random),
         92..=95 => shapes::wide(random),
         96 | 97 => traces::names(random),
-        _ => traces::chains(random),
+        98 | 99 => traces::chains(random),
+        100..=104 => heads::letters(random),
+        105 | 106 => heads::branches(random),
+        107..=110 => heads::sites(random),
+        _ => heads::values(random),
     };
     if random.chance(6) {
         rules.extend(shapes::negation(random));
+    }
+    if random.chance(3) {
+        rules.extend(heads::letters(random));
     }
     let mut text = strings::bytes_of(&rules.concat());
     if random.chance(30) {

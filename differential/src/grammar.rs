@@ -6,6 +6,7 @@ use crate::rules::{Atom, BuiltIn, Fact, Literal, Name, Operation, Quoted, Rule, 
 use crate::wrong::{self, Wrong};
 
 const MOST_RULES: usize = 256;
+const MOST_HEADS: usize = 4;
 const MOST_LITERALS: usize = 16;
 const MOST_ARGUMENTS: usize = 8;
 const MOST_WORD_BYTES: usize = 64;
@@ -130,8 +131,8 @@ impl<'a> Reader<'a> {
             false => self.token.start,
         };
         self.variables = Vec::new();
-        let head = if self.sees(Kind::If) { None } else { Some(self.atom()?) };
-        let body = if head.is_some() && self.sees(Kind::Dot) {
+        let heads = if self.sees(Kind::If) { Vec::new() } else { self.heads()? };
+        let body = if !heads.is_empty() && self.sees(Kind::Dot) {
             Vec::new()
         } else {
             self.take(Kind::If)?;
@@ -139,13 +140,42 @@ impl<'a> Reader<'a> {
         };
         self.take(Kind::Dot)?;
         Ok(Rule {
-            head,
+            heads,
             body,
             variables: std::mem::take(&mut self.variables),
             start,
             length: self.behind - start,
             binding: Vec::new(),
         })
+    }
+
+    fn heads(&mut self) -> Read<Vec<Atom>> {
+        let mut heads = vec![self.atom()?];
+        while self.sees(Kind::Or) {
+            if heads.len() == MOST_HEADS && wrong::is(Wrong::BarBlamed) {
+                return Err(self.refuse(TOO_MANY));
+            }
+            self.advance();
+            heads.push(self.next_head(heads.len())?);
+        }
+        Ok(heads)
+    }
+
+    /// One more head atom, behind its bar.
+    fn next_head(&mut self, count: usize) -> Read<Atom> {
+        if !matches!(self.token.kind, Kind::Minus | Kind::Name) && !self.sees_string_as_name() {
+            return Err(self.unexpected());
+        }
+        let most = match () {
+            () if wrong::is(Wrong::HeadsOf5) => MOST_HEADS + 1,
+            () if wrong::is(Wrong::HeadsOf3) => MOST_HEADS - 1,
+            () => MOST_HEADS,
+        };
+        if count >= most && self.sees(Kind::Minus) && wrong::is(Wrong::HeadWithoutMinus) {
+            self.advance();
+        }
+        self.limit(count, most)?;
+        self.atom()
     }
 
     fn body(&mut self) -> Read<Vec<Literal>> {

@@ -18,6 +18,8 @@ pub enum Kind {
     Comma,
     Dot,
     If,
+    /// The `|` between two head atoms.
+    Or,
     Plus,
     Minus,
     Times,
@@ -57,6 +59,7 @@ const MARKS: &[(&[u8], Kind)] = &[
     (b")", Kind::Close),
     (b",", Kind::Comma),
     (b".", Kind::Dot),
+    (b"|", Kind::Or),
     (b"+", Kind::Plus),
     (b"-", Kind::Minus),
     (b"*", Kind::Times),

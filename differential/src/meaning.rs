@@ -2,6 +2,7 @@
 
 pub mod definition;
 pub mod matchings;
+pub mod subsets;
 
 use crate::rules::{Fact, Rule};
 
@@ -12,10 +13,13 @@ pub enum Outcome {
     OutOfRange { rule: usize },
     /// The first broken instance: its rule, and the positions of its positive literals' atoms.
     Broken { rule: usize, body: Vec<usize> },
-    /// The last Lk, where it is not the candidate.
+    /// The last Lk, where it is not the candidate; with several heads the proper subset that satisfies the reduct and
+    /// has the least number.
     Smaller { kept: Vec<usize> },
     /// The rounds, and each atom's.
     Accepted { rounds: usize, each: Vec<usize> },
+    /// With several heads: no proper subset of so many atoms satisfies the reduct.
+    Minimal { atoms: usize },
 }
 
 /// The outcome, by the plain definition where the case is small enough for it.

@@ -32,14 +32,27 @@ impl Writer {
     }
 
     fn rule(&mut self, rule: &Rule) {
-        if let Some(head) = &rule.head {
-            self.atom(rule, head);
-        }
+        self.heads(rule);
         for (place, literal) in rule.body.iter().enumerate() {
             self.token(if place == 0 { b":-" } else { b"," });
             self.literal(rule, literal);
         }
         self.token(b".");
+    }
+
+    fn heads(&mut self, rule: &Rule) {
+        for (place, head) in rule.heads.iter().enumerate() {
+            if wrong::is(Wrong::WritesHeadOnce) && rule.heads[..place].contains(head) {
+                continue;
+            }
+            if place > 0 {
+                if wrong::is(Wrong::BlankBeforeBar) {
+                    self.bytes.push(b' ');
+                }
+                self.token(b"|");
+            }
+            self.atom(rule, head);
+        }
     }
 
     fn literal(&mut self, rule: &Rule, literal: &Literal) {

@@ -38,7 +38,7 @@ impl Term {
 }
 
 /// A classical atom of a rule.
-#[derive(Clone, Debug)]
+#[derive(Clone, Debug, PartialEq, Eq)]
 pub struct Atom {
     pub negative: bool,
     pub name: Name,
@@ -105,7 +105,8 @@ pub struct Variable {
 /// A rule and the place of its text, from its first token to its dot.
 #[derive(Clone, Debug)]
 pub struct Rule {
-    pub head: Option<Atom>,
+    /// The head atoms as written; a constraint has none.
+    pub heads: Vec<Atom>,
     pub body: Vec<Literal>,
     pub variables: Vec<Variable>,
     pub start: usize,
@@ -143,7 +144,7 @@ impl Rule {
 impl Rule {
     /// The values that stand in the rule, each as often as it does.
     pub fn values(&self) -> Vec<&Value> {
-        let mut terms: Vec<&Term> = self.head.iter().flat_map(|atom| &atom.arguments).collect();
+        let mut terms: Vec<&Term> = self.heads.iter().flat_map(|atom| &atom.arguments).collect();
         for literal in &self.body {
             match literal {
                 Literal::Positive(atom) | Literal::Negated(atom) => terms.extend(&atom.arguments),

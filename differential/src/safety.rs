@@ -42,6 +42,9 @@ fn scan(rule: &Rule) -> (Vec<usize>, Vec<bool>) {
             _ => (),
         }
     }
+    if wrong::is(Wrong::LaterHeadsFree) {
+        rule.heads.iter().skip(1).for_each(|head| bind_atom(head, &mut bound));
+    }
     let mut binding = Vec::new();
     let mut from = 0;
     while let Some((place, variable)) = next_gain(rule, from, &bound) {

@@ -3,7 +3,7 @@
 use std::io::{self, Write};
 
 use crate::batch;
-use crate::check::{read_program, Settle};
+use crate::check::{few_for_subsets, read_program, Settle};
 use crate::compare::{generated, honest};
 use crate::examples;
 use crate::frames::{self, Case};
@@ -73,7 +73,7 @@ fn frames_read_back(cases: &[Case]) -> io::Result<bool> {
     tell("batches of frames that read back", 1, &failed)
 }
 
-/// The rules and facts of a case that are read and consistent.
+/// The rules and facts of a case that are read, consistent and few enough.
 fn meaningful(case: &Case) -> Option<(Vec<Rule>, Vec<Fact>)> {
     let Case::Check { program, output, .. } = case else {
         return None;
@@ -83,7 +83,9 @@ fn meaningful(case: &Case) -> Option<(Vec<Rule>, Vec<Fact>)> {
         return None;
     };
     output::distinct(output, &facts).ok()?;
-    Some((rules, facts.into_iter().map(|placed| placed.fact).collect()))
+    let facts: Vec<Fact> = facts.into_iter().map(|placed| placed.fact).collect();
+    few_for_subsets(&rules, &facts).ok()?;
+    Some((rules, facts))
 }
 
 /// The plain definition and the matchings come to the same, wherever the case is small enough for both.

@@ -11,7 +11,7 @@ use Rattle.meaning.specs.Values.{Value, values, in-range}
 use Rattle.meaning.specs.Safety.{positives}
 use Rattle.meaning.specs.Instances.{Substitution}
 use Rattle.meaning.specs.Matchings.{Placed}
-use Rattle.meaning.specs.Verdicts.{Means, MeansUnsatisfied}
+use Rattle.meaning.specs.Verdicts.{MeansUnsatisfied, MeansBy, Means}
 use Rattle.meaning.specs.Outcomes.{MeansOutcome}
 use Rattle.codes.proofs.Pairwise.{within}
 use Rattle.judge.specs.declared.Judgement.{Judgement}
@@ -40,7 +40,7 @@ same-before (p ∷ ps) (q ∷ qs) e =
 
 module _ (P : List (Rule Value)) (I : List (Fact Value)) (rules : length P ≤ 1_024) (facts : length I ≤ 1_024) (j : Judgement) (n : ℕ) (new : List ℕ) (wide : length (j .positions) ≡ 16) (h : MeansOutcome values in-range P I (said (j .kind) j n new)) where
   unsatisfied : j .kind ≡ Unsatisfied → MeansUnsatisfied values P I (suc (j .rule)) (map suc (take (j .length) (j .positions)))
-  unfolding said Means MeansOutcome
+  unfolding said Means MeansBy MeansOutcome
   unsatisfied e = let k : MeansOutcome values in-range P I (said Unsatisfied j n new) = rw e at h in k .means
 
   rule-below : MeansUnsatisfied values P I (suc (j .rule)) (map suc (take (j .length) (j .positions))) → j .rule < 1_024

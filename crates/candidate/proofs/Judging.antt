@@ -16,7 +16,7 @@ use Rattle.tables.proofs.Strides.{from-length}
 use Rattle.rule_places.specs.Sentences.{sentence}
 use Rattle.judge.specs.declared.Judgement.{Judgement}
 use Rattle.judge.specs.declared.Kind.{Kind}
-use Rattle.judge.specs.declared.Kind.the-variants.{OutOfRange, Unsatisfied, Accepted, Smaller}
+use Rattle.judge.specs.declared.Kind.the-variants.{OutOfRange, Unsatisfied, Accepted, Minimal, Smaller}
 use Rattle.judge.specs.Judged.{said, Lent, SetShown}
 use Rattle.promise.specs.Answer as paper
 use Rattle.promise.specs.Judged.{Settled, settles}
@@ -28,7 +28,7 @@ use Rattle.fields.specs.Answers.{Says}
 use Rattle.fields.specs.Checked.{Answers}
 use Rattle.fields.proofs.Kept.{all-listed}
 use Rattle.fields.proofs.Saying.{accepted-says, unsatisfied-says, smaller-says}
-use Rattle.verdict.specs.Told.{positions-of, Tells, leaves-range, is-broken, is-accepted, is-smaller}
+use Rattle.verdict.specs.Told.{positions-of, Tells, leaves-range, is-broken, is-accepted, is-minimal, is-smaller}
 use Rattle.verdict.proofs.Counting.{from-one-taken}
 use Rattle.fields.proofs.Answering.{refuses, hands-on}
 
@@ -64,6 +64,9 @@ module _ (text : Bytes) (P : List (Rule Value)) (I : List (Fact Value)) (old new
   told Accepted h lent shown a is-accepted =
       let stage = settled-is (rule-part text) P I old _ h in
       hands-on _ old _ new (rw (written n old new room (lent .0) (lent .1)) at stage) a (accepted-says n (j .rounds))
+  told Minimal h lent shown a is-minimal =
+      let stage = settled-is (rule-part text) P I old _ h in
+      rw lent (hands-on _ old _ old stage a (accepted-says n 0))
   told Smaller h lent shown a (is-smaller words bits) =
       let stage = settled-is (rule-part text) P I old _ h in
       rw lent (hands-on _ old _ old stage a (smaller-says (j .set) (from (holds (j .set)) n 0) (omega (arith, from-length (holds (j .set)) n 0, few)) (all-listed (holds (j .set)) n (shown .none-behind)) words bits (shown .well-kept)))

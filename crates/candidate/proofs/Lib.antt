@@ -3,4 +3,5 @@ pub mod Bounds
 pub mod Clashing
 pub mod Judging
 pub mod Settling
+pub mod Heads
 pub mod WithFacts

@@ -1,7 +1,7 @@
 -- What tables that stand for a program and a candidate give: facts apart, and the answer of the last stages.
 use mathlib.Core.Path.{_≡_, sym}
 use mathlib.Core.List.{List}
-use Prim.Native.Nat.{ℕ, zero, suc, _-_, _≤_, _<_}
+use Prim.Native.Nat.{ℕ, zero, suc, _≤_, _<_}
 use native.Mathlib.Omega.{arith}
 use lib.ListN.{length, drop, length-take}
 use Rattle.meaning.specs.Rules.{Bytes, Fact, Rule}
@@ -24,7 +24,7 @@ use Rattle.promise.specs.Judged.{Settled}
 use Rattle.fields.specs.Checked.{Answers}
 use Rattle.fields.specs.declared.answer.Answer.{Answer}
 use Rattle.verdict.specs.Told.{Small, Tells}
-use Rattle.candidate.specs.declared.settled.Counts.{Counts}
+use Rattle.candidate.specs.declared.settled.Task.{Task}
 use Rattle.candidate.specs.Standing.{Stands, Settling}
 use Rattle.candidate.proofs.Clashing.{facts-apart}
 use Rattle.candidate.proofs.Judging.{told}
@@ -58,27 +58,28 @@ module _ (program output : Bytes) (names rules literals facts links : List ℕ) 
 
 -- ---- the premises of `judge`, of ranks, and of the look for comparisons
 
-module _ (program output : Bytes) (names store : List ℕ) (n : Counts) (places : List ℕ) (s : Settling program output names store n places) where
-  abbrev rules-table : RuleTable (rules-in store) (literals-in store) (n .rules)
-  rules-table = s .stands .held .rules-held .rule-table
-
+module _ (store : List ℕ) where
   rules-long : length (rules-in store) ≤ 10_240
-  rules-long = omega (arith, length-take 10_240 (drop 61_440 store))
+  rules-long = omega (arith, length-take 10_240 (drop 70_656 store))
 
-  literals-long : length (literals-in store) ≤ 52_224
-  literals-long = omega (arith, length-take 52_224 (drop 9_216 store))
+  literals-long : length (literals-in store) ≤ 61_440
+  literals-long = omega (arith, length-take 61_440 (drop 9_216 store))
 
-  few-rows : (total : ℕ) → ((r : ℕ) → r < total → RuleRow (rules-in store) (literals-in store) r) → total ≤ 256
+  pub few-rows : (total : ℕ) → ((r : ℕ) → r < total → RuleRow (rules-in store) (literals-in store) r) → total ≤ 256
   few-rows zero row = omega arith
   few-rows (suc k) row = omega (arith, row k (omega arith) .inside, rules-long)
 
-  few : n .rules ≤ 256
-  few = few-rows (n .rules) (rules-table .rule)
+module _ (program output : Bytes) (names store : List ℕ) (t : Task) (places : List ℕ) (s : Settling program output names store t places) where
+  abbrev rules-table : RuleTable (rules-in store) (literals-in store) (t .counts .rules)
+  rules-table = s .stands .held .rules-held .rule-table
 
-  pub rules-inside : RulesInside store (n .rules)
-  rules-inside = record { long = s .long; few = few; body = λ r h. omega (arith, rules-table .rule r h .within, literals-long) }
+  few : t .counts .rules ≤ 256
+  few = few-rows store (t .counts .rules) (rules-table .rule)
 
-  pub tables : Tables store (n .facts) (n .rules)
+  pub rules-inside : RulesInside store (t .counts .rules)
+  rules-inside = record { long = s .long; few = few; body = λ r h. omega (arith, rules-table .rule r h .within, literals-long store) }
+
+  pub tables : Tables store (t .counts .facts) (t .counts .rules)
   tables =
       record {
         long = s .long;
@@ -86,7 +87,7 @@ module _ (program output : Bytes) (names store : List ℕ) (n : Counts) (places 
         rule-table = rules-table;
         fact-table = s .stands .held .fact-table;
         linked = s .stands .linked;
-        apart = facts-apart (names-of program output names) (s .stands .held .rules-held .name-table .distinct) (facts-in store) (n .facts) (s .candidate) (s .stands .held .facts-stand) (s .unclashing);
+        apart = facts-apart (names-of program output names) (s .stands .held .rules-held .name-table .distinct) (facts-in store) (t .counts .facts) (s .candidate) (s .stands .held .facts-stand) (s .unclashing);
       }
 
 -- ---- the ranks

@@ -1,6 +1,6 @@
 -- A store that stands for a program and a candidate.
 use mathlib.Core.Path.{_≡_}
-use mathlib.Core.Bool.{true}
+use mathlib.Core.Bool.{Bool, true}
 use mathlib.Core.List.{List}
 use Prim.Native.Nat.{ℕ, _≤_, _<_}
 use lib.ListN.{length, getD}
@@ -8,7 +8,7 @@ use Rattle.tokens.specs.declared.place.Place.{Place}
 use Rattle.tokens.specs.Place.{Countable}
 use Rattle.tokens.specs.Tokens.{part}
 use Rattle.meaning.specs.Sets.{every}
-use Rattle.meaning.specs.Rules.{Bytes, Fact, Rule}
+use Rattle.meaning.specs.Rules.{Bytes, Fact, Rule, disjunctive}
 use Rattle.meaning.specs.Values.{Value}
 use Rattle.meaning.specs.Safety.{safe}
 use Rattle.codes.specs.Codes.{Coded}
@@ -27,7 +27,7 @@ use Rattle.stages.specs.Stage.{Stage, _⟫_, Refuse, First}
 use Rattle.rule_places.specs.Sentences.{sentence}
 use Rattle.output.specs.Output.{on-line}
 use Rattle.promise.specs.Answer.{Result}
-use Rattle.promise.specs.Cases.{Clash}
+use Rattle.promise.specs.Cases.{Clash, most-tested, TooManyTested}
 use Rattle.promise.specs.Answered.{rule-part, fact-part}
 use Rattle.promise.specs.Judged.{Settled}
 use Rattle.fields.specs.declared.answer.Answer.{Answer}
@@ -35,6 +35,7 @@ use Rattle.filling.specs.Filling.{FactsFilled}
 use Rattle.fields.specs.Parts.{fact-place}
 use Rattle.fields.specs.Checked.{Answers}
 use Rattle.candidate.specs.declared.settled.Counts.{Counts}
+use Rattle.candidate.specs.declared.settled.Task.{Task}
 use Rattle.candidate.specs.declared.Fault.{Fault}
 
 abbrev pub FactsStand : List Bytes → List (Fact ℕ) → List (Fact Value) → Type 0
@@ -42,6 +43,10 @@ FactsStand names F I = Pairwise (RelatedAtom (CodedName names) (Coded names)) F 
 
 abbrev pub RulesStand : List Bytes → List (Rule ℕ) → List (Rule Value) → Type 0
 RulesStand names R P = Pairwise (RelatedRule (CodedName names) (Coded names)) R P
+
+-- some rule in the store has several heads
+abbrev pub several-heads : List ℕ → ℕ → Bool
+several-heads store total = disjunctive (rules-of (rules-in store) (literals-in store) total)
 
 -- well-formed tables of names, rules and literals, for the safe rules P
 pub record RulesHeld (program output : Bytes) (names rules literals : List ℕ) (total : ℕ) (P : List (Rule Value)) : Type 0 where
@@ -65,37 +70,40 @@ pub record Stands (program output : Bytes) (names rules literals facts links : L
 abbrev pub InStore : (program output : Bytes) (names store : List ℕ) → Counts → List (Rule Value) → List (Fact Value) → Type 0
 InStore program output names store n P I = Stands program output names (rules-in store) (literals-in store) (facts-in store) (links-in store) (n .facts) (n .rules) P I
 
--- .. whose facts are distinct and consistent, with room for their rounds
-pub record Settling (program output : Bytes) (names store : List ℕ) (n : Counts) (places : List ℕ) : Type 0 where
+-- .. whose facts are distinct and consistent, with room for their rounds, and not too many to be tested where some rule has several heads
+pub record Settling (program output : Bytes) (names store : List ℕ) (t : Task) (places : List ℕ) : Type 0 where
   pub program-rules : List (Rule Value)
   pub candidate : List (Fact Value)
   pub long : length store ≡ store-size
-  pub stands : InStore program output names store n program-rules candidate
+  pub stands : InStore program output names store (t .counts) program-rules candidate
   pub unclashing : (i k : ℕ) → ¬ Clash candidate i k
-  pub room : n .facts ≤ length places
+  pub room : t .counts .facts ≤ length places
+  pub several : t .several ≡ several-heads store (t .counts .rules)
+  pub tested : t .several ≡ true → t .counts .facts ≤ most-tested
 
--- the answer behind 9, for whatever the store stands for
-abbrev pub AnswersSettled : (program output : Bytes) (names store : List ℕ) → Counts → List ℕ → Answer → List ℕ → Type 0
-AnswersSettled program output names store n places a left =
-    (P : List (Rule Value)) (I : List (Fact Value)) → InStore program output names store n P I → Answers (Settled (rule-part program) P I places) places a left
+-- the answer behind 12, for whatever the store stands for
+abbrev pub AnswersSettled : (program output : Bytes) (names store : List ℕ) → Task → List ℕ → Answer → List ℕ → Type 0
+AnswersSettled program output names store t places a left =
+    (P : List (Rule Value)) (I : List (Fact Value)) → InStore program output names store (t .counts) P I → Answers (Settled (rule-part program) P I places) places a left
 
 -- .. beside ranks of the names, which are those of some output and table
-pub record Judgeable (program : Bytes) (ranks store : List ℕ) (n : Counts) (places : List ℕ) : Type 0 where
+pub record Judgeable (program : Bytes) (ranks store : List ℕ) (t : Task) (places : List ℕ) : Type 0 where
   pub output : Bytes
   pub names : List ℕ
-  pub settling : Settling program output names store n places
-  pub comparing : Comparing (names-of program output names) ranks store (n .rules)
+  pub settling : Settling program output names store t places
+  pub comparing : Comparing (names-of program output names) ranks store (t .counts .rules)
 
-abbrev pub AnswersJudged : (program : Bytes) (ranks store : List ℕ) → Counts → List ℕ → Answer → List ℕ → Type 0
-AnswersJudged program ranks store n places a left =
-    (output : Bytes) (names : List ℕ) (P : List (Rule Value)) (I : List (Fact Value)) → InStore program output names store n P I → Comparing (names-of program output names) ranks store (n .rules) → Answers (Settled (rule-part program) P I places) places a left
+abbrev pub AnswersJudged : (program : Bytes) (ranks store : List ℕ) → Task → List ℕ → Answer → List ℕ → Type 0
+AnswersJudged program ranks store t places a left =
+    (output : Bytes) (names : List ℕ) (P : List (Rule Value)) (I : List (Fact Value)) → InStore program output names store (t .counts) P I → Comparing (names-of program output names) ranks store (t .counts .rules) → Answers (Settled (rule-part program) P I places) places a left
 
--- ---- the facts are put into the store: 6 and 7; 9; then the last stages
+-- ---- the facts are put into the store: 6 and 7; 9; 12; then the last stages
 
 abbrev pub Behind : (program output : Bytes) → Place → List ℕ → List (Rule Value) → List (Fact Value) → Stage Result
 Behind program output line places P I =
     First (fact-part output line) (Clash I) ⟫ λ _.
     Refuse 9 (start-of Text.output) (length places < length I) ⟫ λ _.
+    Refuse 12 (start-of Text.output) (TooManyTested P I) ⟫ λ _.
     Settled (rule-part program) P I places
 
 -- the first fact that clashes, if one does, has the number of the fault

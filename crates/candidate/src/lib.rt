@@ -1,4 +1,4 @@
-// A candidate, behind a program and an output that are read: its facts go into the store; 6 and 7; 9; then the last stages.
+// A candidate, behind a program and an output that are read: its facts go into the store; 6 and 7; 9; 12; then the last stages.
 ghost use mathlib.Core.Path.{_≡_};
 ghost use Prim.Native.Nat.{_<_, _≤_};
 ghost use lib.ListN.{length, getD};
@@ -13,15 +13,21 @@ use fields::answer::Text;
 use fields::answer::refused;
 use fields::clash::fact_part;
 use filling::fill_facts;
+use judge::several::several_heads;
 use settled::Counts;
+use settled::Task;
 use settled::settled;
 use tokens::place::Place;
 use tokens::place::TEXT_START;
+use tokens::sizes::MOST_TESTED_FACTS;
 
 pub mod settled;
 
 // The refusal of places that are fewer than the facts.
 const SHORT: u8 = 9;
+
+// The refusal of more facts than are tested against every proper subset.
+const UNTESTED: u8 = 12;
 
 // A fact's refusal, if it has one, and its place.
 pub struct Fault {
@@ -80,5 +86,10 @@ pub fn with_facts<'a>(
     if places.len() < counts.facts {
         return refused(SHORT, Text::Output, TEXT_START);
     }
-    settled(program, output, names, store, counts, places)
+    let several = several_heads(store, counts.rules);
+    if several && MOST_TESTED_FACTS < counts.facts {
+        return refused(UNTESTED, Text::Output, TEXT_START);
+    }
+    let task = Task { counts, several };
+    settled(program, output, names, store, task, places)
 }

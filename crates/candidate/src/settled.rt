@@ -16,19 +16,26 @@ pub struct Counts {
     pub rules: usize,
 }
 
+// .. and whether some rule has several heads: then the candidate is tested against every proper subset.
+pub struct Task {
+    pub counts: Counts,
+    pub several: bool,
+}
+
 // The answer that the judgement gives, with these ranks.
-fn judged(
-    program: &[u8],
-    store: &[u64],
-    ranks: &[u32],
-    counts: Counts,
-    places: &mut [u16],
-) -> Answer
-    requires { ⌜ Judgeable (now program) (now ranks) (now store) counts (now places) ⌝ }
-    ensures { λ a. ⌜ AnswersJudged (now (program .entry)) (now (ranks .entry)) (now (store .entry)) counts (now (places .entry)) a (now (places .exit)) ⌝ }
+fn judged(program: &[u8], store: &[u64], ranks: &[u32], task: Task, places: &mut [u16]) -> Answer
+    requires { ⌜ Judgeable (now program) (now ranks) (now store) task (now places) ⌝ }
+    ensures { λ a. ⌜ AnswersJudged (now (program .entry)) (now (ranks .entry)) (now (store .entry)) task (now (places .entry)) a (now (places .exit)) ⌝ }
 {
-    let judgement = judge(store, ranks, counts.facts, counts.rules, places);
-    verdict(program, judgement, counts.facts)
+    let judgement = judge(
+        store,
+        ranks,
+        task.counts.facts,
+        task.counts.rules,
+        task.several,
+        places,
+    );
+    verdict(program, judgement, task.counts.facts)
 }
 
 // .. with the ranks of names and strings worked out in a table.
@@ -37,35 +44,35 @@ fn ranked<'a>(
     output: &'a [u8],
     names: &[u32],
     store: &[u64],
-    counts: Counts,
+    task: Task,
     table: &mut [u32],
     places: &mut [u16],
 ) -> Answer
-    requires { ⌜ Settling (now program) (now output) (now names) (now store) counts (now places) × (length (now table) ≡ count (now names)) ⌝ }
-    ensures { λ a. ⌜ AnswersSettled (now (program .entry)) (now (output .entry)) (now (names .entry)) (now (store .entry)) counts (now (places .entry)) a (now (places .exit)) ⌝ }
+    requires { ⌜ Settling (now program) (now output) (now names) (now store) task (now places) × (length (now table) ≡ count (now names)) ⌝ }
+    ensures { λ a. ⌜ AnswersSettled (now (program .entry)) (now (output .entry)) (now (names .entry)) (now (store .entry)) task (now (places .entry)) a (now (places .exit)) ⌝ }
 {
     rank_names(program, output, names, table);
-    judged(program, store, table, counts, places)
+    judged(program, store, table, task, places)
 }
 
 fn rank_table() -> [u32; MOST_NAMES] {
     [0; MOST_NAMES]
 }
 
-// The answer where the facts are distinct and consistent and there is room. Ranks are worked out only where a rule asks which of two comes
-// first; else any numbers will do.
+// The answer where the facts are distinct and consistent, there is room, and they are not too many to be tested. Ranks are worked out only
+// where a rule asks which of two comes first; else any numbers will do.
 pub fn settled<'a>(
     program: &'a [u8],
     output: &'a [u8],
     names: &[u32],
     store: &[u64],
-    counts: Counts,
+    task: Task,
     places: &mut [u16],
 ) -> Answer
-    requires { ⌜ Settling (now program) (now output) (now names) (now store) counts (now places) ⌝ }
-    ensures { λ a. ⌜ AnswersSettled (now (program .entry)) (now (output .entry)) (now (names .entry)) (now (store .entry)) counts (now (places .entry)) a (now (places .exit)) ⌝ }
+    requires { ⌜ Settling (now program) (now output) (now names) (now store) task (now places) ⌝ }
+    ensures { λ a. ⌜ AnswersSettled (now (program .entry)) (now (output .entry)) (now (names .entry)) (now (store .entry)) task (now (places .entry)) a (now (places .exit)) ⌝ }
 {
-    if any_orders(store, counts.rules) {
+    if any_orders(store, task.counts.rules) {
         let size = names[0] as usize;
         let mut table = rank_table();
         return ranked(
@@ -73,10 +80,10 @@ pub fn settled<'a>(
             output,
             names,
             store,
-            counts,
+            task,
             &mut table[0..size],
             places,
         );
     }
-    judged(program, store, names, counts, places)
+    judged(program, store, names, task, places)
 }

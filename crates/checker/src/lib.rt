@@ -38,7 +38,7 @@ fn with_names<'a>(
     reported(program, output, code, names, &mut store, read.count, places)
 }
 
-// Refusals in their order, else the verdict; with ACCEPTED each atom's round in the places, from the first on.
+// Refusals in their order, else the verdict; with ACCEPTED each atom's round in the places, from the first on, where no rule has several heads.
 pub fn check<'a>(program: &'a [u8], output: &'a [u8], code: u64, places: &mut [u16]) -> Answer
     ensures { λ a. ⌜ Answers (Check (now (program .entry)) (now (output .entry)) code (now (places .entry))) (now (places .entry)) a (now (places .exit)) ⌝ }
 {

@@ -3,7 +3,7 @@
 use mathlib.Core.Path.{_≡_, refl, ap, _∙_, sym as inv}
 use mathlib.Core.Bool.{Bool, true, false, true≢false, false≢true}
 use mathlib.Core.Option.{Option, none, some}
-use mathlib.Core.List.{List, [], _∷_, _++_}
+use mathlib.Core.List.{List, [], _∷_}
 use Prim.Native.Nat.{ℕ, suc, _+_, _-_, _*_, _≤_, _<_}
 use native.Mathlib.Omega.{arith}
 use native.Mathlib.Numerals.{add-one}
@@ -16,7 +16,7 @@ use Rattle.tokens.specs.Places.{places-in}
 use Rattle.tokens.specs.Tokens.{part}
 use Rattle.reading.specs.Machine.{walk}
 use Rattle.meaning.specs.Rules.{Bytes}
-use Rattle.grammar.specs.Trees.{Sequence, empty, _then_, count, Atom as AtomTree, Literal as LiteralTree, Program}
+use Rattle.grammar.specs.Trees.{Sequence, empty, _then_, count, Literal as LiteralTree, Heads, Program}
 use Rattle.grammar.specs.Spelling.{inside, literal, with-commas, spell-nth-literal}
 use Rattle.grammar.specs.Variables.{Variables as Names, meet-symbol, meet, met}
 use Rattle.grammar.specs.Abstraction.{literal-for, literals-for}
@@ -26,15 +26,14 @@ use Rattle.grammar.specs.Moves.{symbol-number, token-number, when, fire, either
 use Rattle.grammar.specs.Machine.{new-body, with-rule, after-literal}
 use Rattle.grammar.proofs.Numbers.{try-number, fire-number}
 use Rattle.grammar.proofs.Variables.{met-literal}
-use Rattle.codes.specs.Related.{Pairwise, end, pair}
-use Rattle.codes.proofs.Pairwise.{pairwise-more, pairwise-append}
+use Rattle.codes.specs.Related.{Pairwise, end}
+use Rattle.codes.proofs.Pairwise.{pairwise-more}
 use Rattle.names.specs.Table.{names-of}
 use Rattle.tables.specs.Rows as tables
 use Rattle.tables.specs.Layout.{literal-stride}
 use Rattle.tables.specs.Stored.{with-row, Kept, row-at}
 use Rattle.tables.specs.Coded.{CodedLiteral, BodyCoded}
-use Rattle.tables.proofs.Stored.{put-kept-of, put-part-of, kept-self, kept-then, kept-wider, kept-part}
-use Rattle.tables.proofs.Strides.{from-same, from-last}
+use Rattle.tables.proofs.Stored.{kept-self, kept-then, kept-wider}
 use Rattle.syntax.specs.declared.token.TokenRead.{TokenRead}
 use Rattle.syntax.specs.declared.separator.SeparatorRead.{SeparatorRead}
 use Rattle.syntax.specs.Text.{token-of, placed-from, end-of, tokenRead, next-of}
@@ -60,9 +59,10 @@ use Rattle.literals.specs.Builtins.{ReadyBehind}
 use Rattle.literals.specs.Literals.{ReadsLiteral}
 use Rattle.clauses.specs.declared.body.BodyRead.{BodyRead}
 use Rattle.clauses.specs.Bodies.{ReadyBody, FillsBody, stoppedBody, goneBody}
+use Rattle.clauses.proofs.RowLaws.{row-kept, row-more}
 
 -- a body behind these literals
-abbrev body-with : Program false → Option (AtomTree false) → Sequence (LiteralTree false) → BodyContext false
+abbrev body-with : Program false → Option (Heads false) → Sequence (LiteralTree false) → BodyContext false
 body-with p h ls = record { free = tt; rules = p; head = h; literals = ls }
 
 -- the literals are as many
@@ -89,7 +89,7 @@ pub record Going (program output : Bytes) (names₀ variables₀ literals₀ : L
   pub size : count before ≡ n
   pub coded : Pairwise (CodedLiteral (names-of program output names)) (tables.from (row-at literals) n first) (literals-for (variables-of program (met-before variables₀ k)) before)
   pub variables-met : met (variables-of program (met-before variables₀ k)) (with-commas spell-nth-literal before) ≡ variables-of program (places-in variables met₁)
-  pub walks : (p : Program false) (h : Option (AtomTree false)) → from false program (wants (atom-wanted (literal-in (new-body tt p h)))) (met-before variables₀ k) (k .at .start) ≡ from false program (wants (atom-wanted (literal-in (body-with p h before)))) (places-in variables met₁) (at .start)
+  pub walks : (p : Program false) (h : Option (Heads false)) → from false program (wants (atom-wanted (literal-in (new-body tt p h)))) (met-before variables₀ k) (k .at .start) ≡ from false program (wants (atom-wanted (literal-in (body-with p h before)))) (places-in variables met₁) (at .start)
 
 pub going-start : (program output : Bytes) (names variables literals : List ℕ) (k : Cursor) (first : ℕ) → ReadyBody program output names variables literals k first → Going program output names variables literals k first names variables literals (k .at) (k .met) 0
 unfolding count literals-for met with-commas tables.from
@@ -120,7 +120,7 @@ module _ (program output : Bytes) (names₀ variables₀ literals₀ : List ℕ)
   going-ready asked over = record { ready = ready-on (asked .ready .ready) (onward k at over met₁) refl (g .grows) (g .onward) (g .placed) (fits-met variables met₁ (g .fits)) (g .long); in-program = asked .ready .in-program }
 
   module _ (r : LiteralRead) (names′ variables′ : List ℕ) (gr : ReadsLiteral program output names variables (at-literal k at met₁ n) r names′ variables′) where
-    place : Program false → Option (AtomTree false) → LiteralPlace (leb 16 n)
+    place : Program false → Option (Heads false) → LiteralPlace (leb 16 n)
     unfolding too-many
     place p h = record { body = body-with p h (g .before); size = rw (g .size) (too-many-next 16 n) }
 
@@ -152,21 +152,7 @@ module _ (program output : Bytes) (names₀ variables₀ literals₀ : List ℕ)
           pub kept : Kept (first * literal-stride) ((first + most-literals) * literal-stride) literals₀ literals′
           pub coded : Pairwise (CodedLiteral (names-of program output names′)) (tables.from (row-at literals′) (n + 1) first) (literals-for (variables-of program v₀) (g .before then one))
           pub variables-met : met (variables-of program v₀) (with-commas spell-nth-literal (g .before then one)) ≡ variables-of program (places-in variables′ (r .met))
-          pub walks : (p : Program false) (h : Option (AtomTree false)) → from false program (wants (atom-wanted (literal-in (new-body tt p h)))) v₀ (k .at .start) ≡ from false program (behind-literal (body-with p h (g .before)) one) (places-in variables′ (r .met)) (r .progress .place .start)
-
-        room-here : (first + n) * literal-stride + length (r .row) ≤ length literals
-        room-here = let y = going-fits long in omega arith
-
-        changed : Kept ((first + n) * literal-stride) ((first + n) * literal-stride + literal-stride) literals literals′
-        changed = rw stored (put-kept-of literals ((first + n) * literal-stride) (r .row) room-here literal-stride twelve)
-
-        here : row-at literals′ (first + n) ≡ r .row
-        here = ap (λ (t : List ℕ). row-at t (first + n)) stored ∙ put-part-of literals ((first + n) * literal-stride) (r .row) room-here literal-stride twelve
-
-        rows : tables.from (row-at literals′) (n + 1) first ≡ tables.from (row-at literals) n first ++ (r .row ∷ [])
-        rows =
-            let before : tables.from (row-at literals′) n first ≡ tables.from (row-at literals) n first = from-same (row-at literals′) (row-at literals) n first (λ j p q. kept-part changed literal-stride (j * literal-stride) (omega arith)) in
-            rw (add-one n, from-last (row-at literals′) n first, before, here)
+          pub walks : (p : Program false) (h : Option (Heads false)) → from false program (wants (atom-wanted (literal-in (new-body tt p h)))) v₀ (k .at .start) ≡ from false program (behind-literal (body-with p h (g .before)) one) (places-in variables′ (r .met)) (r .progress .place .start)
 
         pub grown : Grown
         unfolding place literals-for count
@@ -181,8 +167,8 @@ module _ (program output : Bytes) (names₀ variables₀ literals₀ : List ℕ)
                   onward = b;
                   placed = l;
                   grows = grows-then program output (g .grows) (r .progress .place .start - k .at .start) (s .grows) (let y = g .onward in omega arith);
-                  kept = kept-then (g .kept) (kept-wider changed (first * literal-stride) ((first + most-literals) * literal-stride) (omega arith) (let y = going-room in omega arith));
-                  coded = rw (rows, g .variables-met) (pairwise-append (pairwise-more _ (λ a y z. record { related = keeps-literal program output (s .grows) _ _ (z .related); side = z .side }) (g .coded)) (pair (s .coded) end));
+                  kept = kept-then (g .kept) (kept-wider (row-kept first n (r .row) literals twelve (going-fits long) literals′ stored) (first * literal-stride) ((first + most-literals) * literal-stride) (omega arith) (let y = going-room in omega arith));
+                  coded = rw (g .variables-met) (row-more first n (r .row) literals twelve (going-fits long) literals′ stored (pairwise-more _ (λ a y z. record { related = keeps-literal program output (s .grows) _ _ (z .related); side = z .side }) (g .coded)) (s .coded));
                   variables-met = met-then spell-nth-literal (variables-of program v₀) (g .before) x ∙ rw (g .variables-met) (met-literal (literal (suc (count (g .before)))) inside (variables-of program (places-in variables met₁)) x ∙ m);
                   walks = λ p h. g .walks p h ∙ q (place p h);
                 }
@@ -220,7 +206,7 @@ module _ (program output : Bytes) (names₀ variables₀ literals₀ : List ℕ)
                   let size : length (literals-for (variables-of program v₀) (g .before then grown .one)) ≡ n + 1 = literals-many (variables-of program v₀) (g .before then grown .one) ∙ inv many in
                   codes-wider _ (let a = grown .onward in let b = g .onward in omega arith) (record { grows = grown .grows; coded = rw size (grown .coded) })
 
-              dotted : t .kind ≡ 8 → (p : Program false) (h : Option (AtomTree false)) → (from false program (behind-literal (body-with p h (g .before)) (grown .one)) v′ (r .progress .place .start) .answer ≡ walk (language false) (wanting false) (wants (atom-wanted (head-behind (with-rule (body-with p h (g .before)) (grown .one))))) [] (end-of program) (placed-from false program (next-of t))) × (from false program (behind-literal (body-with p h (g .before)) (grown .one)) v′ (r .progress .place .start) .firsts ≡ v′) × (from false program (behind-literal (body-with p h (g .before)) (grown .one)) v′ (r .progress .place .start) .rest ≡ some (placed-from false program (next-of t)))
+              dotted : t .kind ≡ 8 → (p : Program false) (h : Option (Heads false)) → (from false program (behind-literal (body-with p h (g .before)) (grown .one)) v′ (r .progress .place .start) .answer ≡ walk (language false) (wanting false) (wants (atom-wanted (head-behind (with-rule (body-with p h (g .before)) (grown .one))))) [] (end-of program) (placed-from false program (next-of t))) × (from false program (behind-literal (body-with p h (g .before)) (grown .one)) v′ (r .progress .place .start) .firsts ≡ v′) × (from false program (behind-literal (body-with p h (g .before)) (grown .one)) v′ (r .progress .place .start) .rest ≡ some (placed-from false program (next-of t)))
               dotted y p h = dot-token false program (r .progress .place .start) t refl y (behind-literal (body-with p h (g .before)) (grown .one)) v′ (record { mark = inside; state = atom-wanted (head-behind (with-rule (body-with p h (g .before)) (grown .one))) }) refl (fault-none _ _ _ _ refl refl refl refl)
 
               go : Separates false program (r .progress .place .start) 8 d → FillsBody program output names₀ variables₀ literals₀ k first (goneBody (n + 1) (d .progress .place) (r .met)) names′ variables′ literals′

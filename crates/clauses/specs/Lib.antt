@@ -1,3 +1,4 @@
 -- In the order to read them in.
+pub mod Heads
 pub mod Bodies
 pub mod Clauses

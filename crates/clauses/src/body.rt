@@ -23,7 +23,7 @@ pub struct BodyRead {
     pub met: usize,
 }
 
-pub fn stopped(code: u8, place: Place, met: usize) -> BodyRead
+fn stopped(code: u8, place: Place, met: usize) -> BodyRead
     ensures { λ r. ⌜ r ≡ stoppedBody code place met ⌝ }
 {
     BodyRead {

@@ -1,12 +1,11 @@
 -- Related rules bind the same variables, and are safe together: safety looks at no value.
 use mathlib.Core.Path.{_≡_, refl, ap, ap₂, _∙_}
 use mathlib.Core.Bool.{Bool, _&&_}
-use mathlib.Core.Option.{Option}
 use mathlib.Core.List.{List}
 use Prim.Native.Nat.{ℕ}
-use Rattle.meaning.specs.Rules.{Bytes, Term, Atom, Rule}
+use Rattle.meaning.specs.Rules.{Bytes, Rule}
 use Rattle.meaning.specs.Safety.{in-positives, atom-bound, literal-bound, head-bound, Equation, equations, with, bound-after, bound, safe}
-use Rattle.codes.specs.Related.{Pairwise, end, pair, Perhaps, neither, both, RelatedTerm, RelatedAtom, RelatedLiteral, both-positive, both-negated, both-builtin, RelatedRule}
+use Rattle.codes.specs.Related.{Pairwise, end, pair, RelatedTerm, RelatedAtom, RelatedLiteral, both-positive, both-negated, both-builtin, RelatedRule}
 use Rattle.codes.proofs.Pairwise.{Agree, same-every}
 use Rattle.codes.proofs.Scans.{RelatedEquation, same-term-bound, same-side-bound, same-in-positives, related-equations}
 
@@ -27,16 +26,11 @@ module _ {U W : Type 0} {N : Bytes → Bytes → Type 0} {R : U → W → Type 0
   same-literal-bound B _ _ (both-negated a) = same-atom-bound B _ _ a
   same-literal-bound B _ _ (both-builtin k t e) = ap₂ _&&_ (same-term-bound B _ _ t) (same-side-bound B _ _ e)
 
-  same-head-bound : (B : ℕ → Bool) {h : Option (Atom (Term U))} {k : Option (Atom (Term W))} → Perhaps (RelatedAtom N (RelatedTerm R)) h k → head-bound B h ≡ head-bound B k
-  unfolding head-bound
-  same-head-bound B neither = refl
-  same-head-bound B (both a) = same-atom-bound B _ _ a
-
   pub same-bound : {r : Rule U} {s : Rule W} → RelatedRule N R r s → bound r ≡ bound s
   unfolding bound
   same-bound {r} {s} h = ap (λ (B : ℕ → Bool). bound-after B (equations r)) (same-in-positives (h .body)) ∙ same-after (in-positives (s .body)) (related-equations h)
 
   pub same-safe : {r : Rule U} {s : Rule W} → RelatedRule N R r s → safe r ≡ safe s
-  unfolding safe
+  unfolding safe head-bound
   same-safe {r} {s} h =
-      rw (same-bound h) (ap₂ _&&_ (same-head-bound (bound s) (h .head)) (same-every _ _ (same-literal-bound (bound s)) (h .body)))
+      rw (same-bound h) (ap₂ _&&_ (same-every _ _ (same-atom-bound (bound s)) (h .heads)) (same-every _ _ (same-literal-bound (bound s)) (h .body)))

@@ -1,7 +1,6 @@
 -- What the function that reads a fact returns, by the tests that led there.
 use mathlib.Core.Path.{_≡_, refl, ap, _∙_, sym as inv}
 use mathlib.Core.Bool.{Bool, true, false}
-use mathlib.Core.Option.{some}
 use mathlib.Core.List.{List, []}
 use Prim.Native.Nat.{ℕ, _<_}
 use native.Mathlib.Omega.{arith}
@@ -9,25 +8,23 @@ use borrow.Author.Tests.{ne-eqb}
 use Rattle.tokens.specs.declared.place.Place.{Place}
 use Rattle.tokens.specs.Place.{text-start, past}
 use Rattle.tokens.specs.Places.{places-in}
-use Rattle.reading.specs.Machine.{walk}
 use Rattle.meaning.specs.Rules.{Bytes}
-use Rattle.grammar.specs.Trees.{empty, _then_, count, Atom, fact, Program}
-use Rattle.grammar.specs.Spelling.{inside}
-use Rattle.grammar.specs.Sizes.{too-big, too-long, too-many, is-underscore, too-many-variables, language}
-use Rattle.grammar.specs.States.{head-behind, atom-wanted, closed}
-use Rattle.grammar.specs.Moves.{free-moves, symbol-number, when, fire, either, try}
+use Rattle.grammar.specs.Trees.{empty, count, head, Program}
+use Rattle.grammar.specs.Sizes.{too-many}
+use Rattle.grammar.specs.States.{head-behind, atom-wanted}
+use Rattle.grammar.specs.Moves.{free-moves, symbol-number, when, either}
 use Rattle.grammar.specs.Machine.{after-atom, else-wanted, moves, finished-atom, finished}
 use Rattle.grammar.proofs.Numbers.{try-number, fire-number}
 use Rattle.syntax.specs.declared.token.TokenRead.{TokenRead}
 use Rattle.syntax.specs.Text.{placed-from, end-of, tokenRead, next-of}
 use Rattle.syntax.specs.Variables.{variables-of}
-use Rattle.syntax.specs.Ahead.{wants, wanting, from}
+use Rattle.syntax.specs.Ahead.{wants, from}
 use Rattle.syntax.specs.Fills.{Fills}
-use Rattle.syntax.specs.Atoms.{AtomPlace, head, atom-context}
+use Rattle.syntax.specs.Atoms.{AtomPlace, atom-context}
 use Rattle.syntax.specs.Rules.{behind-rules, RulePlace}
 use Rattle.syntax.proofs.Tokens.{forward, past-here}
-use Rattle.syntax.proofs.Steps.{same-walk, wrong-token, at-end, dot-token, dot-stands}
-use Rattle.syntax.proofs.Sizes.{fault-none}
+use Rattle.syntax.proofs.Steps.{same-walk, wrong-token, at-end, dot-stands}
+use Rattle.syntax.proofs.Heads.{heads-dot, line-wrong}
 use Rattle.terms.proofs.Readiness.{codes-wider}
 use Rattle.terms.specs.declared.cursor.Cursor.{Cursor}
 use Rattle.atoms.specs.declared.atom.AtomRead.{AtomRead}
@@ -64,7 +61,7 @@ module _ (program output text : Bytes) (names variables : List ℕ) (base : ℕ)
     v′ = places-in variables′ (w .met)
 
     place : RulePlace true over → AtomPlace true over text (at .start)
-    place h = head (h .rules) (h .size) (λ z. ne (rw et z)) (λ z. nd (rw et z))
+    place h = AtomPlace.head (h .rules) (h .size) (λ z. ne (rw et z)) (λ z. nd (rw et z))
 
     pub fact-stops : (w .progress .code ≡ 0 → ⊥) → r ≡ noFact (w .progress .code) (w .progress .place) false → ReadsFact program output names over text (at .start) r names′
     unfolding place atom-context places-in
@@ -77,26 +74,23 @@ module _ (program output text : Bytes) (names variables : List ℕ) (base : ℕ)
     module _ (z : w .progress .code ≡ 0) (d : TokenRead) (ed : d ≡ tokenRead true text (w .progress .place .start)) where
       -- no dot behind it
       pub fact-wrong : (d .kind ≡ 8 → ⊥) → r ≡ noFact 2 (d .place) false → ReadsFact program output names over text (at .start) r names′
-      unfolding place atom-context places-in moves after-atom free-moves try-number fire-number either when symbol-number finished
+      unfolding place atom-context places-in moves after-atom finished
       fact-wrong n er = rw er (go g)
         where
           go : ReadsAtom program output text names variables (at-fact base at over) w names′ variables′ → ReadsFact program output names over text (at .start) (noFact 2 (d .place) false) names′
-          go (Fills.read c b n′ o f x s m q) = stopped (omega arith) (λ h. as-ahead text (at .start) (h .rules) ∙ ap (λ y. y .answer) (q (place h)) ∙ wrong-token true text (w .progress .place .start) d ed (wants (closed (head-behind (h .rules)) x)) v′ (rw (ne-eqb (d .kind) 8 n)) (λ y. refl))
+          go (Fills.read c b n′ o f x s m q) = stopped (omega arith) (λ h. as-ahead text (at .start) (h .rules) ∙ ap (λ y. y .answer) (q (place h)) ∙ line-wrong text (w .progress .place .start) d ed v′ n (h .rules) (head x))
           go (Fills.stopped c q) = absurd (omega arith)
 
       pub fact-goes : d .kind ≡ 8 → r ≡ goneFact (w .codes) (t .place .start) (past (d .place)) → ReadsFact program output names over text (at .start) r names′
-      unfolding place atom-context places-in variables-of moves after-atom try fire either when symbol-number too-big too-long too-many too-many-variables is-underscore count
+      unfolding place atom-context places-in variables-of moves after-atom finished too-many count
       fact-goes ek er = rw er (go g)
         where
-          dotted : (p : Program true) (x : Atom true) → (from true text (wants (closed (head-behind p) x)) v′ (w .progress .place .start) .answer ≡ walk (language true) (wanting true) (wants (atom-wanted (head-behind (p then fact x)))) [] (end-of text) (placed-from true text (next-of d))) × (from true text (wants (closed (head-behind p) x)) v′ (w .progress .place .start) .rest ≡ some (placed-from true text (next-of d)))
-          dotted p x = let y = dot-token true text (w .progress .place .start) d ed ek (wants (closed (head-behind p) x)) v′ (record { mark = inside; state = atom-wanted (head-behind (p then fact x)) }) refl (fault-none _ _ _ _ refl refl refl refl) in (y .0, y .2)
-
           behind : w .progress .place .start < next-of d
           behind = forward true text (w .progress .place .start) d ed (λ q. let y : _≡_ {A = ℕ} 8 20 = inv ek ∙ q in omega arith)
 
           go : ReadsAtom program output text names variables (at-fact base at over) w names′ variables′ → ReadsFact program output names over text (at .start) (goneFact (w .codes) (t .place .start) (past (d .place))) names′
           go (Fills.read c b n o f x s m q) =
-              let y = q (head empty (inv o) (λ z. ne (rw et z)) (λ z. nd (rw et z))) in
+              let y = q (AtomPlace.head empty (inv o) (λ z. ne (rw et z)) (λ z. nd (rw et z))) in
               let l = behind in
               read refl refl o x
               (record {
@@ -105,10 +99,10 @@ module _ (program output text : Bytes) (names variables : List ℕ) (base : ℕ)
                 placed = past-here true text (w .progress .place .start) d ed (λ q. absurd (let y : _≡_ {A = ℕ} 8 21 = inv ek ∙ q in omega arith));
                 start = rw et;
                 some-token = λ k. nd (rw et k);
-                rest = ap (λ u. u .rest) y ∙ dotted empty x .1;
+                rest = ap (λ u. u .rest) y ∙ heads-dot true text (w .progress .place .start) d ed v′ ek empty (head x) .2;
                 dot = d .place;
                 dot-is = ap (λ u. u .dot) y ∙ dot-stands true text (w .progress .place .start) d ed ek;
                 ends = rw ed;
               })
-              (λ h. as-ahead text (at .start) (h .rules) ∙ ap (λ u. u .answer) (q (place h)) ∙ dotted (h .rules) x .0 ∙ inv (same-walk true _ _ [] _))
+              (λ h. as-ahead text (at .start) (h .rules) ∙ ap (λ u. u .answer) (q (place h)) ∙ heads-dot true text (w .progress .place .start) d ed v′ ek (h .rules) (head x) .0)
           go (Fills.stopped c q) = absurd (omega arith)

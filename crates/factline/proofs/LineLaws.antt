@@ -24,9 +24,9 @@ use Rattle.meaning.specs.Sets.{In}
 use Rattle.meaning.specs.Rules.{Bytes, Rule as MeantRule}
 use Rattle.meaning.specs.Values.{Value}
 use Rattle.grammar.specs.Tokens.{Token}
-use Rattle.grammar.specs.Trees.{empty, _then_, count, Atom, fact, Program}
+use Rattle.grammar.specs.Trees.{empty, _then_, count, Atom, head, fact, Program}
 use Rattle.grammar.specs.Sizes.{too-many}
-use Rattle.grammar.specs.Abstraction.{atom-for, rule-for, fact-for, facts-for}
+use Rattle.grammar.specs.Abstraction.{atom-for, heads-for, rule-for, fact-for, facts-for}
 use Rattle.grammar.proofs.Facts.{fact-rule, fact-is-rule}
 use Rattle.syntax.specs.Text.{placed-from, end-of, tokenRead}
 use Rattle.syntax.specs.Ahead.{ends-rule, dot-at}
@@ -107,9 +107,9 @@ dot-ends final (t ∷ ts) p e = go (ends-rule (t .token)) refl e (dot-ends final
     go true q h rec = rw (q, some-inj h)
     go false q h rec = rw q (rec h)
 
-atom-meant : (x : Atom true) → atom-for [] x ≡ as-atom (fact-for (fact x))
-unfolding rule-for fact-rule
-atom-meant x = some-inj (ap (λ (m : MeantRule Value). m .head) (fact-is-rule (fact x)))
+atom-meant : (x : Atom true) → atom-for [] x ≡ as-atom (fact-for (fact (head x)))
+unfolding rule-for heads-for fact-rule
+atom-meant x = let e : atom-for [] x ∷ [] ≡ as-atom (fact-for (fact (head x))) ∷ [] = ap (λ (m : MeantRule Value). m .heads) (fact-is-rule (fact (head x))) in cc
 
 -- ---- the loop
 
@@ -220,7 +220,7 @@ module _ (program output : Bytes) (line : Place) (text : Bytes) (et : text ≡ p
           pub tree-of : Atom true
           pub stands : FactStands program output names text (at .start) tree-of r names′
           pub room : n < most-facts
-          pub walks : behind-rules true text empty 0 ≡ behind-rules true text (g .trees then fact tree-of) (r .progress .place .start)
+          pub walks : behind-rules true text empty 0 ≡ behind-rules true text (g .trees then fact (head tree-of)) (r .progress .place .start)
 
         next : Next
         unfolding place
@@ -262,8 +262,8 @@ module _ (program output : Bytes) (line : Place) (text : Bytes) (et : text ≡ p
             }
 
         module _ (facts′ starts′ lengths′ : List ℕ) (put : Put facts starts lengths n (line .start) r facts′ starts′ lengths′) where
-          its-row : FactStored (names-of program output names′) facts n (fact-for (fact (next .tree-of))) facts′
-          its-row = fact-stored (names-of program output names′) facts n (puttable .long) (r .codes) (put .row) (put .is-row) (put .nine) facts′ (put .facts-so) (fact-for (fact (next .tree-of))) (subst (CodedAtom (names-of program output names′) (r .codes)) (atom-meant (next .tree-of)) (next .stands .codes .coded))
+          its-row : FactStored (names-of program output names′) facts n (fact-for (fact (head (next .tree-of)))) facts′
+          its-row = fact-stored (names-of program output names′) facts n (puttable .long) (r .codes) (put .row) (put .is-row) (put .nine) facts′ (put .facts-so) (fact-for (fact (head (next .tree-of)))) (subst (CodedAtom (names-of program output names′) (r .codes)) (atom-meant (next .tree-of)) (next .stands .codes .coded))
 
           grounds : (k : ℕ) → k < n + 1 → (v : ℕ) → In v (fact-arguments facts′ k) → no-value < v
           grounds k h v m = go (eqb k n) refl
@@ -285,7 +285,7 @@ module _ (program output : Bytes) (line : Place) (text : Bytes) (et : text ≡ p
               let y = puttable in
               record {
                 few = omega arith;
-                trees = g .trees then fact (next .tree-of);
+                trees = g .trees then fact (head (next .tree-of));
                 size = ap suc (g .size) ∙ inv (add-one n);
                 walks = next .walks;
                 placed = next .stands .placed;

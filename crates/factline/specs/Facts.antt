@@ -8,7 +8,7 @@ use Rattle.tokens.specs.Place.{Stands}
 use Rattle.tokens.specs.declared.place.Place.{Place}
 use Rattle.reading.specs.Reading.{tree, refused}
 use Rattle.meaning.specs.Rules.{Bytes}
-use Rattle.grammar.specs.Trees.{_then_, Atom, fact, Program}
+use Rattle.grammar.specs.Trees.{_then_, Atom, head, fact, Program}
 use Rattle.grammar.specs.Abstraction.{atom-for}
 use Rattle.syntax.specs.Text.{placed-from, tokenRead}
 use Rattle.syntax.specs.Ahead.{behind-dot, dot-at}
@@ -41,7 +41,7 @@ pub record FactStands (program output : Bytes) (names : List ℕ) (text : Bytes)
 
 -- a fact, the end of the line, or a refusal
 pub data ReadsFact (program output : Bytes) (names : List ℕ) (over : Bool) (text : Bytes) (at : ℕ) (r : FactRead) (names′ : List ℕ) : Type 0 where
-  read : r .progress .code ≡ 0 → r .ended ≡ false → over ≡ false → (x : Atom true) → FactStands program output names text at x r names′ → ((h : RulePlace true over) → behind-rules true text (h .rules) at ≡ behind-rules true text (h .rules then fact x) (r .progress .place .start)) → ReadsFact program output names over text at r names′
+  read : r .progress .code ≡ 0 → r .ended ≡ false → over ≡ false → (x : Atom true) → FactStands program output names text at x r names′ → ((h : RulePlace true over) → behind-rules true text (h .rules) at ≡ behind-rules true text (h .rules then fact (head x)) (r .progress .place .start)) → ReadsFact program output names over text at r names′
   ended : r .progress .code ≡ 0 → r .ended ≡ true → names′ ≡ names → ((p : Program true) → behind-rules true text p at ≡ tree p) → ReadsFact program output names over text at r names′
   stopped : 2 ≤ r .progress .code → ((h : RulePlace true over) → behind-rules true text (h .rules) at ≡ refused (r .progress .code) (r .progress .place)) → ReadsFact program output names over text at r names′
 

@@ -1,17 +1,18 @@
 -- What `check` promises, in the words of its own type: when it refuses, when it hands on a claim, and when it gives each verdict
--- for a program and a candidate that are read, with room and nothing out of range.
+-- for a program and a candidate that are read, with room, with no more facts than are tested where a rule has several heads, and with nothing out of range.
 use mathlib.Core.Path.{_≡_, refl, sym, ap, subst, _∙_}
 use mathlib.Core.Bool.{Bool, true, false}
-use mathlib.Core.Logic.{_↔_}
-use mathlib.Core.List.{List, _++_}
+use mathlib.Core.Logic.{_↔_, _⊎_}
+use mathlib.Core.List.{List, _++_, map}
 use Prim.Native.Nat.{ℕ, _≤_}
 use native.Mathlib.Omega.{arith}
 use lib.ListN.{length, getD, take, drop}
 use Rattle.tokens.specs.declared.place.Place.{Place}
-use Rattle.meaning.specs.Rules.{Bytes}
-use Rattle.meaning.specs.Values.{values}
+use Rattle.meaning.specs.Rules.{Bytes, disjunctive}
+use Rattle.meaning.specs.Values.{Value, values}
+use Rattle.meaning.specs.Instances.{Set}
 use Rattle.meaning.specs.AnswerSets.{Broken, Accepted}
-use Rattle.meaning.specs.Verdicts.{MeansAccepted, MeansUnsatisfied, MeansSmaller}
+use Rattle.meaning.specs.Verdicts.{way, HasRounds, MeansAccepted, MeansUnsatisfied, SmallerSet, LastLevel, LeastNumber, MeansSmaller}
 use Rattle.grammar.specs.Trees.{Program}
 use Rattle.grammar.specs.Abstraction.{rules-for, facts-for}
 use Rattle.stages.specs.Parts.{Part}
@@ -57,8 +58,8 @@ module _ (the-program the-output : Bytes) (code : ℕ) (places : List ℕ) (a : 
       let exactly = numbers.refused-exactly the-program the-output code places (h .answer) left (h .gives) n p in
       (λ r. exactly .0 (says kinds.Refused (r .0) ∙ cc (r .1, r .2)), λ k. refused-fields n p (exactly .1 k))
 
-  -- .. and its number is one of 1 to 10
-  pub refused-numbers : a .kind ≡ kinds.Refused → (1 ≤ a .number) × (a .number ≤ 10)
+  -- .. and its number is one of 1 to 10, or 12, which only a program with several heads in some rule gets
+  pub refused-numbers : a .kind ≡ kinds.Refused → ((1 ≤ a .number) × (a .number ≤ 10)) ⊎ ((a .number ≡ 12) × numbers.SeveralHeads the-program)
   refused-numbers k = numbers.numbers the-program the-output code places _ _ (refused-exactly _ _ .0 (k, refl, refl))
 
   -- it hands on that there is no answer set, or that none was found, exactly where the output reports it, with its code
@@ -107,9 +108,18 @@ module _ (the-program the-output : Bytes) (code : ℕ) (places : List ℕ) (a : 
         let exactly = demands.accepted-exactly the-program the-output code places c line fs ready (h .answer) left (h .gives) in
         (λ k. exactly .0 (a .atoms, a .rounds, says kinds.Accepted k), λ m. let x = exactly .1 m in is kinds.Accepted (fields (paper.accepted (x .0) (x .1))) (x .2))
 
-    -- .. with the number of atoms, ROUNDS, and each atom's round in the places, from the first on; later places are as they were
-    pub accepted-shows : a .kind ≡ kinds.Accepted → (ks : List ℕ) × MeansAccepted values (rules-for c) (facts-for fs) (a .atoms) (a .rounds) ks × (left ≡ ks ++ drop (length ks) places)
+    -- .. with the number of atoms, and what the program asks of ROUNDS and of the rounds in the places, from the first on; later places are as they
+    -- were
+    pub accepted-shows : a .kind ≡ kinds.Accepted → (ks : List ℕ) × MeansAccepted (way (rules-for c)) values (rules-for c) (facts-for fs) (a .atoms) (a .rounds) ks × (left ≡ ks ++ drop (length ks) places)
     accepted-shows k = demands.accepted-shows the-program the-output code places c line fs ready (a .atoms) (a .rounds) left (rw (says kinds.Accepted k) at (h .gives))
+
+    -- .. where no rule has several heads: ROUNDS, and each atom's round
+    pub accepted-rounds : disjunctive (rules-for c) ≡ false → a .kind ≡ kinds.Accepted → (ks : List ℕ) × (a .atoms ≡ length (facts-for fs)) × HasRounds values (rules-for c) (facts-for fs) (a .rounds) ks × (left ≡ ks ++ drop (length ks) places)
+    accepted-rounds single k = demands.accepted-rounds the-program the-output code places c line fs ready single (a .atoms) (a .rounds) left (rw (says kinds.Accepted k) at (h .gives))
+
+    -- .. where some rule has several heads: ROUNDS is zero, and every place is as it was
+    pub accepted-unwritten : disjunctive (rules-for c) ≡ true → a .kind ≡ kinds.Accepted → (a .atoms ≡ length (facts-for fs)) × (a .rounds ≡ 0) × (left ≡ places)
+    accepted-unwritten several k = demands.accepted-unwritten the-program the-output code places c line fs ready several (a .atoms) (a .rounds) left (rw (says kinds.Accepted k) at (h .gives))
 
     -- it rejects by a broken instance exactly where there is one
     pub unsatisfied-exactly : (a .kind ≡ kinds.Unsatisfied) ↔ Broken values (rules-for c) (facts-for fs)
@@ -127,8 +137,20 @@ module _ (the-program the-output : Bytes) (code : ℕ) (places : List ℕ) (a : 
         let exactly = demands.smaller-exactly the-program the-output code places c line fs ready (h .answer) left (h .gives) in
         (λ k. exactly .0 (_, says kinds.Smaller k), λ m. let x = exactly .1 m in is kinds.Smaller (fields (paper.smaller (x .0))) (x .1))
 
-    -- .. and shows the last of the rounds' sets: the set by value has exactly its atoms
-    pub smaller-shows : a .kind ≡ kinds.Smaller → (bs : List Bool) × ((i : ℕ) → holds (a .kept) i ≡ getD bs i false) × MeansSmaller values (rules-for c) (facts-for fs) bs × (left ≡ places)
+    -- .. and shows the one that the program asks for: the set by value has exactly its atoms
+    pub smaller-shows : a .kind ≡ kinds.Smaller → (bs : List Bool) × ((i : ℕ) → holds (a .kept) i ≡ getD bs i false) × MeansSmaller (way (rules-for c)) values (rules-for c) (facts-for fs) bs × (left ≡ places)
     smaller-shows k =
         let x = demands.smaller-shows the-program the-output code places c line fs ready _ left (rw (says kinds.Smaller k) at (h .gives)) in
         (x .0, kept-decided (a .kept) (x .0) (x .1), x .2, x .3)
+
+    -- .. where no rule has several heads: the last Lk, which lies inside every other subset that satisfies the reduct
+    pub smaller-last : disjunctive (rules-for c) ≡ false → a .kind ≡ kinds.Smaller → (J : Set Value) × ((i : ℕ) → holds (a .kept) i ≡ getD (map J (facts-for fs)) i false) × SmallerSet values (rules-for c) (facts-for fs) J × LastLevel values (rules-for c) (facts-for fs) J
+    smaller-last single k =
+        let x = demands.smaller-last the-program the-output code places c line fs ready single _ left (rw (says kinds.Smaller k) at (h .gives)) in
+        (x .0, kept-decided (a .kept) (map (x .0) (facts-for fs)) (x .1), x .2, x .3)
+
+    -- .. where some rule has several heads: of the proper subsets that satisfy the reduct, the one whose number is least
+    pub smaller-least : disjunctive (rules-for c) ≡ true → a .kind ≡ kinds.Smaller → (J : Set Value) × ((i : ℕ) → holds (a .kept) i ≡ getD (map J (facts-for fs)) i false) × SmallerSet values (rules-for c) (facts-for fs) J × LeastNumber values (rules-for c) (facts-for fs) J
+    smaller-least several k =
+        let x = demands.smaller-least the-program the-output code places c line fs ready several _ left (rw (says kinds.Smaller k) at (h .gives)) in
+        (x .0, kept-decided (a .kept) (map (x .0) (facts-for fs)) (x .1), x .2, x .3)

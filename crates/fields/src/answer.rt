@@ -33,7 +33,7 @@ pub struct Answer {
     // REFUSED: its number, and the part that holds the fault.
     pub number: u8,
     pub part: Part,
-    // ACCEPTED: how many atoms, and ROUNDS.
+    // ACCEPTED: how many atoms, and ROUNDS, zero where some rule has several heads.
     pub atoms: usize,
     pub rounds: usize,
     // UNSATISFIED: the rule's number, and as many positions as it has positive literals, all from 1.

@@ -8,12 +8,12 @@ use Rattle.reading.specs.Reading.{tokens}
 use Rattle.reading.specs.Machine.{Step, run}
 use Rattle.reading.proofs.Lists.{none-some}
 use Rattle.meaning.specs.Rules.{Bytes}
-use Rattle.grammar.specs.Tokens.{Symbol, underscore, not, minus, opening, closing, comma, dot, :-, plus, times, Token, name, variable, string, number, comparison, symbol, stray}
-use Rattle.grammar.specs.Trees.{empty, Term, bare, Atom, atom, Literal, positive, negated, compared, computed, Program}
+use Rattle.grammar.specs.Tokens.{Symbol, underscore, not, minus, opening, closing, comma, dot, :-, plus, times, bar, Token, name, variable, string, number, comparison, symbol, stray}
+use Rattle.grammar.specs.Trees.{empty, Term, bare, Atom, atom, Literal, positive, negated, compared, computed, Heads, head, also, Program}
 use Rattle.grammar.specs.Spelling.{Mark, spell}
 use Rattle.grammar.specs.Writing.{is-word-symbol, is-word, is-comparison, run-together, Apart}
-use Rattle.grammar.specs.States.{BodyContext, AtomContext, head-behind, literal-in, not-in, TermContext, argument-in, left-in, right-in, operand-in, State, atom-wanted, atom-minus, named, opened, closed, term-wanted, term-minus, term-read}
-use Rattle.grammar.specs.Machine.{after-literal, after-atom, after-term, else-wanted, else-minus, else-named, a-term, moves, step, machine}
+use Rattle.grammar.specs.States.{BodyContext, AtomContext, head-behind, head-after, literal-in, not-in, TermContext, argument-in, left-in, right-in, operand-in, State, atom-wanted, atom-minus, named, opened, closed, term-wanted, term-minus, term-read}
+use Rattle.grammar.specs.Machine.{after-literal, after-heads, after-atom, after-term, else-wanted, else-minus, else-named, a-term, moves, step, machine}
 use Rattle.grammar.proofs.Moves.{OnMove, OnMoves, on-append, on-free, try-all}
 use Rattle.grammar.proofs.Complete.{complete}
 
@@ -33,6 +33,7 @@ symbol-last dot = no-word
 symbol-last :- = no-word
 symbol-last plus = no-word
 symbol-last times = no-word
+symbol-last bar = no-word
 
 token-last : Token → Last
 token-last (name b) = a-word
@@ -45,6 +46,7 @@ token-last (stray b) = no-word
 
 atom-last : {ground : Bool} → AtomContext ground → Last
 atom-last (head-behind p) = no-word
+atom-last (head-after u p hs) = no-word
 atom-last (literal-in c) = no-word
 atom-last (not-in c) = a-not
 
@@ -83,6 +85,7 @@ apart (symbol dot) t h = inl refl
 apart (symbol :-) t h = inl refl
 apart (symbol plus) t h = inl refl
 apart (symbol times) t h = inl refl
+apart (symbol bar) t h = inl refl
 apart (stray b) t h = inl refl
 
 pub behind-nothing : (t : Token) (ts : List Token) → Apart (t ∷ ts) → Apart ts
@@ -106,9 +109,14 @@ module _ {ground : Bool} where
   unfolding OnMoves OnMove after-literal state-last atom-last token-last symbol-last is-word-symbol
   keeps-literal l c x = ((refl, mark l comma refl), ((refl, mark l dot refl), tt))
 
+  keeps-heads : (l : Last) (p : Program ground) (hs : Heads ground) → OnMoves (Keeps l) (after-heads p hs)
+  unfolding OnMoves OnMove after-heads state-last atom-last token-last symbol-last is-word-symbol
+  keeps-heads l p hs = ((refl, mark l dot refl), on-free (Keeps l) ground _ (λ u. ((refl, mark l :- refl), ((refl, mark l bar refl), tt))))
+
   keeps-atom : (l : Last) (a : AtomContext ground) (x : Atom ground) → OnMoves (Keeps l) (after-atom a x)
-  unfolding OnMoves OnMove after-atom state-last atom-last token-last symbol-last is-word-symbol
-  keeps-atom l (head-behind p) x = ((refl, mark l dot refl), on-free (Keeps l) ground _ (λ u. ((refl, mark l :- refl), tt)))
+  unfolding after-atom
+  keeps-atom l (head-behind p) x = keeps-heads l p (head x)
+  keeps-atom l (head-after u p hs) x = keeps-heads l p (also u hs x)
   keeps-atom l (literal-in c) x = keeps-literal l c (positive x)
   keeps-atom l (not-in c) x = keeps-literal l c (negated x)
 
@@ -126,24 +134,28 @@ module _ {ground : Bool} where
   keeps-else : (a : AtomContext ground) → OnMoves (Keeps (atom-last a)) (else-wanted a)
   unfolding OnMoves OnMove else-wanted state-last atom-last token-last symbol-last is-comparison
   keeps-else (head-behind p) = on-free (Keeps no-word) ground _ (λ u. ((refl, refl), tt))
+  keeps-else (head-after u p hs) = tt
   keeps-else (literal-in c) = ((λ b. (refl, refl)), ((λ b. (refl, refl)), ((λ n. (refl, refl)), ((refl, refl), ((refl, refl), tt)))))
   keeps-else (not-in c) = tt
 
   keeps-name : (a : AtomContext ground) (b : Bytes) → May (atom-last a) (name b)
   unfolding atom-last is-comparison
   keeps-name (head-behind p) b = refl
+  keeps-name (head-after u p hs) b = refl
   keeps-name (literal-in c) b = refl
   keeps-name (not-in c) b = inr (b, refl)
 
   keeps-minus : (a : AtomContext ground) → OnMoves (Keeps no-word) (else-minus a)
   unfolding OnMoves OnMove else-minus state-last token-last is-comparison
   keeps-minus (head-behind p) = tt
+  keeps-minus (head-after u p hs) = tt
   keeps-minus (literal-in c) = ((λ n. (refl, refl)), tt)
   keeps-minus (not-in c) = tt
 
   keeps-named : (a : AtomContext ground) (s : Bool) (b : Bytes) → OnMoves (Keeps a-word) (else-named a s b)
   unfolding OnMoves OnMove else-named state-last token-last is-word
   keeps-named (head-behind p) s b = tt
+  keeps-named (head-after u p hs) s b = tt
   keeps-named (literal-in c) true b = tt
   keeps-named (literal-in c) false b = ((λ r. (refl, refl)), tt)
   keeps-named (not-in c) s b = tt

@@ -13,8 +13,8 @@ use Rattle.grammar.specs.Trees.{Term, parentheses, arguments, Atom, atom
 use Rattle.grammar.specs.Spelling.{Mark, spell}
 use Rattle.grammar.specs.Sizes.{language}
 use Rattle.grammar.specs.Moves.{when, fire, either, try, symbol-number}
-use Rattle.grammar.specs.States.{AtomContext, head-behind, literal-in, not-in, TermContext, argument-in, left-in, right-in, operand-in, State, atom-wanted, atom-minus, named, opened, closed, term-wanted, term-minus, term-read}
-use Rattle.grammar.specs.Machine.{after-literal, after-atom, after-term, a-term, moves, step, finished, finished-atom}
+use Rattle.grammar.specs.States.{AtomContext, head-behind, head-after, literal-in, not-in, TermContext, argument-in, left-in, right-in, operand-in, State, atom-wanted, atom-minus, named, opened, closed, term-wanted, term-minus, term-read}
+use Rattle.grammar.specs.Machine.{after-literal, after-heads, after-atom, after-term, a-term, moves, step, finished, finished-atom}
 use Rattle.grammar.proofs.Sound.{before-atom, spelled, step-adds}
 
 module _ {ground : Bool} where
@@ -27,8 +27,9 @@ module _ {ground : Bool} where
   program-begins p = (p, [], inv (append-nil (spell p)))
 
   closed-begins : (a : AtomContext ground) (x : Atom ground) → Begins (language ground) (spelled (closed a x))
-  unfolding step moves try fire either when symbol-number after-atom after-literal
+  unfolding step moves try fire either when symbol-number after-atom after-heads after-literal
   closed-begins (head-behind p) x = back (closed (head-behind p) x) (symbol dot) _ refl (program-begins _)
+  closed-begins (head-after u p hs) x = back (closed (head-after u p hs) x) (symbol dot) _ refl (program-begins _)
   closed-begins (literal-in c) x = back (closed (literal-in c) x) (symbol dot) _ refl (program-begins _)
   closed-begins (not-in c) x = back (closed (not-in c) x) (symbol dot) _ refl (program-begins _)
 
@@ -61,6 +62,7 @@ module _ {ground : Bool} where
   pub finish : (s : State ground) (p : Program ground) → finished s ≡ some p → spelled s ≡ spell p
   unfolding finished finished-atom spelled before-atom
   finish (atom-wanted (head-behind q)) p k = ap spell (some-inj k)
+  finish (atom-wanted (head-after u r hs)) p k = absurd (none-some k)
   finish (atom-wanted (literal-in c)) p k = absurd (none-some k)
   finish (atom-wanted (not-in c)) p k = absurd (none-some k)
   finish (atom-minus a) p k = absurd (none-some k)

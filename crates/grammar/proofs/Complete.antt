@@ -10,12 +10,12 @@ use Rattle.reading.specs.Machine.{Step, run}
 use Rattle.reading.proofs.Traces.{Leads, leads-append}
 use Rattle.meaning.specs.Domain.{Operation}
 use Rattle.meaning.specs.Rules.{Bytes}
-use Rattle.grammar.specs.Tokens.{Sign, Symbol, not, opening, closing, comma, dot, :-, Token, comparison, symbol}
-use Rattle.grammar.specs.Trees.{Free, Sequence, empty, _then_, count, Term, name, variable, string, number, negative, anonymous, Arguments, bare, parentheses, arguments, Atom, atom, Literal, positive, negated, compared, computed, Rule, fact, clause, Program}
-use Rattle.grammar.specs.Spelling.{Mark, inside, Spelling, mere, with-commas, spell-term, spell-argument, spell-arguments, spell-signed, spell-atom, spell-operation, spell-compared, spell-literal, spell-nth-literal, spell-head, spell-rule, spell}
+use Rattle.grammar.specs.Tokens.{Sign, Symbol, not, opening, closing, comma, dot, :-, bar, Token, comparison, symbol}
+use Rattle.grammar.specs.Trees.{Free, Sequence, empty, _then_, count, Term, name, variable, string, number, negative, anonymous, Arguments, bare, parentheses, arguments, Atom, atom, Literal, positive, negated, compared, computed, Heads, head, also, Rule, fact, clause, Program}
+use Rattle.grammar.specs.Spelling.{Mark, inside, Spelling, mere, with-commas, spell-term, spell-argument, spell-arguments, spell-signed, spell-atom, spell-operation, spell-compared, spell-literal, spell-nth-literal, spell-heads, spell-head, spell-rule, spell}
 use Rattle.grammar.specs.Moves.{when, fire, either, try, symbol-number}
-use Rattle.grammar.specs.States.{BodyContext, AtomContext, head-behind, literal-in, not-in, TermContext, argument-in, right-in, operand-in, State, atom-wanted, named, opened, closed, term-wanted, term-read}
-use Rattle.grammar.specs.Machine.{new-body, with-literal, with-rule, after-literal, after-atom, after-term, else-wanted, else-minus, else-named, a-term, moves, step, machine}
+use Rattle.grammar.specs.States.{BodyContext, AtomContext, head-behind, head-after, literal-in, not-in, TermContext, argument-in, right-in, operand-in, State, atom-wanted, named, opened, closed, term-wanted, term-read}
+use Rattle.grammar.specs.Machine.{new-body, with-literal, with-rule, after-literal, after-heads, after-atom, after-term, else-wanted, else-minus, else-named, a-term, moves, step, machine}
 use Rattle.grammar.proofs.Moves.{free-try}
 
 -- a comma or a dot
@@ -103,6 +103,7 @@ module _ {ground : Bool} where
   behind-step : (a : AtomContext ground) (x : Atom ground) (z : Symbol) → eqb (symbol-number z) 5 ≡ false → step (behind a x) (symbol z) ≡ try (after-atom a x) (symbol z)
   unfolding step moves try fire either when symbol-number behind else-named
   behind-step (head-behind p) (atom s b bare) z h = rw h
+  behind-step (head-after u p hs) (atom s b bare) z h = rw h
   behind-step (literal-in c) (atom true b bare) z h = rw h
   behind-step (literal-in c) (atom false b bare) z h = rw h
   behind-step (not-in c) (atom s b bare) z h = rw h
@@ -167,23 +168,42 @@ module _ {ground : Bool} where
 
   -- ---- bodies, rules, programs
 
-  literals-lead : (ls : Sequence (Literal ground)) (u : Free ground) (p : Program ground) (h : Option (Atom ground)) → Lead (atom-wanted (literal-in (new-body u p h))) (with-commas spell-nth-literal ls) (atom-wanted (literal-in (record { free = u; rules = p; head = h; literals = ls })))
+  literals-lead : (ls : Sequence (Literal ground)) (u : Free ground) (p : Program ground) (h : Option (Heads ground)) → Lead (atom-wanted (literal-in (new-body u p h))) (with-commas spell-nth-literal ls) (atom-wanted (literal-in (record { free = u; rules = p; head = h; literals = ls })))
   unfolding with-commas tokens past separator
   literals-lead empty u p h = record { via = λ r. refl }
   literals-lead (ls then l) u p h = rw (append-assoc (with-commas spell-nth-literal ls)) (join (with-commas spell-nth-literal ls) _ (literals-lead ls u p h) (literal-leads l true _ _))
 
-  head-leads : (h : Option (Atom ground)) (u : Free ground) (p : Program ground) (m : Mark) → Lead (atom-wanted (head-behind p)) (spell-head m h) (atom-wanted (literal-in (new-body u p h)))
-  unfolding step moves try fire either when symbol-number spell-head else-wanted after-atom
-  head-leads none u p m = one (atom-wanted (head-behind p)) _ _ (free-try ground _ u _)
-  head-leads (some x) u p m = join (spell-atom m x) _ (atom-leads x (head-behind p) m) (one (behind (head-behind p) x) _ _ (behind-step (head-behind p) x :- refl ∙ free-try ground _ u _))
+  -- the state behind heads
+  behind-heads : Program ground → Heads ground → State ground
+  behind-heads p (head x) = behind (head-behind p) x
+  behind-heads p (also u hs x) = behind (head-after u p hs) x
 
-  dot-leads : (p : Program ground) (x : Atom ground) → Lead (behind (head-behind p) x) (mere dot ∷ []) (atom-wanted (head-behind (p then fact x)))
-  unfolding try fire either when symbol-number after-atom
-  dot-leads p x = one (behind (head-behind p) x) _ _ (behind-step (head-behind p) x dot refl)
+  heads-step : (p : Program ground) (hs : Heads ground) (z : Symbol) → eqb (symbol-number z) 5 ≡ false → step (behind-heads p hs) (symbol z) ≡ try (after-heads p hs) (symbol z)
+  unfolding behind-heads after-atom
+  heads-step p (head x) z h = behind-step (head-behind p) x z h
+  heads-step p (also u hs x) z h = behind-step (head-after u p hs) x z h
+
+  bar-leads : (p : Program ground) (hs : Heads ground) (u : Free ground) → Lead (behind-heads p hs) (mere bar ∷ []) (atom-wanted (head-after u p hs))
+  unfolding try fire either when symbol-number after-heads
+  bar-leads p hs u = one (behind-heads p hs) _ _ (heads-step p hs bar refl ∙ free-try ground _ u _)
+
+  heads-lead : (hs : Heads ground) (p : Program ground) (m : Mark) → Lead (atom-wanted (head-behind p)) (spell-heads m hs) (behind-heads p hs)
+  unfolding spell-heads behind-heads
+  heads-lead (head x) p m = atom-leads x (head-behind p) m
+  heads-lead (also u hs x) p m = join (spell-heads m hs) _ (heads-lead hs p m) (join (mere bar ∷ []) _ (bar-leads p hs u) (atom-leads x (head-after u p hs) _))
+
+  head-leads : (h : Option (Heads ground)) (u : Free ground) (p : Program ground) (m : Mark) → Lead (atom-wanted (head-behind p)) (spell-head m h) (atom-wanted (literal-in (new-body u p h)))
+  unfolding step moves try fire either when symbol-number spell-head else-wanted after-heads
+  head-leads none u p m = one (atom-wanted (head-behind p)) _ _ (free-try ground _ u _)
+  head-leads (some hs) u p m = join (spell-heads m hs) _ (heads-lead hs p m) (one (behind-heads p hs) _ _ (heads-step p hs :- refl ∙ free-try ground _ u _))
+
+  dot-leads : (p : Program ground) (hs : Heads ground) → Lead (behind-heads p hs) (mere dot ∷ []) (atom-wanted (head-behind (p then fact hs)))
+  unfolding try fire either when symbol-number after-heads
+  dot-leads p hs = one (behind-heads p hs) _ _ (heads-step p hs dot refl)
 
   rule-leads : (r : Rule ground) (p : Program ground) (m : Mark) → Lead (atom-wanted (head-behind p)) (spell-rule m r) (atom-wanted (head-behind (p then r)))
   unfolding spell-rule past separator
-  rule-leads (fact x) p m = join (spell-atom m x) _ (atom-leads x (head-behind p) m) (dot-leads p x)
+  rule-leads (fact hs) p m = join (spell-heads m hs) _ (heads-lead hs p m) (dot-leads p hs)
   rule-leads (clause u h ls l) p m =
       rw (append-assoc (spell-head m h ++ with-commas spell-nth-literal ls))
       (join (spell-head m h ++ with-commas spell-nth-literal ls) _ (join (spell-head m h) _ (head-leads h u p m) (literals-lead ls u p h)) (literal-leads l false _ _))

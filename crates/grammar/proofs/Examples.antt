@@ -13,6 +13,7 @@ use Rattle.reading.specs.Machine.{answer}
 use Rattle.grammar.specs.Sizes.{language, programs}
 use Rattle.grammar.specs.Machine.{machine}
 use Rattle.grammar.specs.Example.{Outcome, Example, placed, outcome-of, Hold, PlainExample, PlainHold}
+use Rattle.grammar.specs.HeadExamples.{head-examples, bar-examples}
 use Rattle.grammar.specs.Examples.{argument-examples, literal-examples, word-examples, string-examples, number-examples, variable-examples, rule-examples, wrong-examples, rule-forms, examples, plain-examples}
 use Rattle.grammar.proofs.Computing.{computing}
 use Rattle.grammar.proofs.Theorems.{answer-is-reading}
@@ -26,7 +27,7 @@ all-hold [] h = tt
 all-hold (e ∷ es) h = ((answer (language (e .ground)) (machine (e .ground)) (length (e .text)) (placed 0 (e .text)), answer-is-reading (e .ground) _ _, cc), all-hold es (cc))
 
 pub examples-hold : Hold examples
-unfolding examples argument-examples literal-examples word-examples string-examples number-examples variable-examples rule-examples wrong-examples rule-forms answered outcome-of placed computing
+unfolding examples argument-examples head-examples bar-examples literal-examples word-examples string-examples number-examples variable-examples rule-examples wrong-examples rule-forms answered outcome-of placed computing
 examples-hold = all-hold examples refl
 
 -- the tree that is read, where one is

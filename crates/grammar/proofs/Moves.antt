@@ -11,7 +11,7 @@ use borrow.Author.Tests.{eqb-true}
 use Rattle.reading.specs.Machine.{Step}
 use Rattle.reading.proofs.Lists.{none-some, some-inj}
 use Rattle.meaning.specs.Rules.{Bytes}
-use Rattle.grammar.specs.Tokens.{Sign, Symbol, underscore, not, minus, opening, closing, comma, dot, :-, plus, times, Token, name, variable, string, number, comparison, symbol, stray}
+use Rattle.grammar.specs.Tokens.{Sign, Symbol, underscore, not, minus, opening, closing, comma, dot, :-, plus, times, bar, Token, name, variable, string, number, comparison, symbol, stray}
 use Rattle.grammar.specs.Trees.{Free}
 use Rattle.grammar.specs.Spelling.{Mark, inside}
 use Rattle.grammar.specs.Moves.{Move, on-name, on-variable, on-string, on-number, on-comparison, on, free-moves, symbol-number, when, fire, either, try}
@@ -19,7 +19,7 @@ use Rattle.grammar.specs.Moves.{Move, on-name, on-variable, on-string, o
 -- ---- a symbol's number is its own
 
 symbol-at : ℕ → Symbol
-symbol-at n = getD (dot ∷ not ∷ dot ∷ underscore ∷ dot ∷ opening ∷ closing ∷ comma ∷ dot ∷ :- ∷ minus ∷ plus ∷ times ∷ []) n dot
+symbol-at n = getD (dot ∷ not ∷ dot ∷ underscore ∷ dot ∷ opening ∷ closing ∷ comma ∷ dot ∷ :- ∷ minus ∷ plus ∷ times ∷ []) n bar
 
 symbol-back : (s : Symbol) → symbol-at (symbol-number s) ≡ s
 unfolding symbol-at symbol-number
@@ -33,6 +33,7 @@ symbol-back dot = refl
 symbol-back :- = refl
 symbol-back plus = refl
 symbol-back times = refl
+symbol-back bar = refl
 
 same-symbol : (s z : Symbol) → eqb (symbol-number s) (symbol-number z) ≡ true → s ≡ z
 same-symbol s z h = inv (symbol-back s) ∙ ap symbol-at (eqb-true (symbol-number s) (symbol-number z) h) ∙ symbol-back z

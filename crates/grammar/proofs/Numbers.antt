@@ -8,11 +8,11 @@ use Prim.Native.Nat.{ℕ, _≤_}
 use native.Mathlib.Omega.{arith}
 use lib.Dec.{eqb, leb}
 use lib.ListN.{getD, List·getD-eq-default}
-use borrow.Author.Tests.{ne-eqb, eqb-false, le-leb, lt-leb}
+use borrow.Author.Tests.{ne-eqb, eqb-false, le-leb}
 use Rattle.reading.specs.Machine.{Step}
 use Rattle.meaning.specs.Domain.{Comparison, equal, unequal, less, at-most, greater, at-least}
 use Rattle.meaning.specs.Rules.{Bytes}
-use Rattle.grammar.specs.Tokens.{Sign, sign, <>, Symbol, underscore, not, minus, opening, closing, comma, dot, :-, plus, times, Token, name, variable, string, number, comparison, symbol, stray}
+use Rattle.grammar.specs.Tokens.{Sign, sign, <>, Symbol, underscore, not, minus, opening, closing, comma, dot, :-, plus, times, bar, Token, name, variable, string, number, comparison, symbol, stray}
 use Rattle.grammar.specs.Spelling.{Mark, inside}
 use Rattle.grammar.specs.Moves.{Move, on-name, on-variable, on-string, on-number, on-comparison, on, symbol-number, comparison-number, sign-number, token-number, when, fire, either, try}
 
@@ -48,23 +48,25 @@ sign-of (stray b) = <>
 -- ---- the numbers of symbols and of signs are apart from the others
 
 record SymbolNumber (n : ℕ) : Type 0 where
-  low : n ≤ 12
+  apart : 13 ≤ n → n ≡ 23
   no-name : eqb n 0 ≡ false
   no-variable : eqb n 2 ≡ false
   no-number : eqb n 4 ≡ false
+  no-sign : leb 13 n && leb n 19 ≡ false
 
 symbols : (s : Symbol) → SymbolNumber (symbol-number s)
 unfolding symbol-number
-symbols underscore = record { low = omega arith; no-name = refl; no-variable = refl; no-number = refl }
-symbols not = record { low = omega arith; no-name = refl; no-variable = refl; no-number = refl }
-symbols minus = record { low = omega arith; no-name = refl; no-variable = refl; no-number = refl }
-symbols opening = record { low = omega arith; no-name = refl; no-variable = refl; no-number = refl }
-symbols closing = record { low = omega arith; no-name = refl; no-variable = refl; no-number = refl }
-symbols comma = record { low = omega arith; no-name = refl; no-variable = refl; no-number = refl }
-symbols dot = record { low = omega arith; no-name = refl; no-variable = refl; no-number = refl }
-symbols :- = record { low = omega arith; no-name = refl; no-variable = refl; no-number = refl }
-symbols plus = record { low = omega arith; no-name = refl; no-variable = refl; no-number = refl }
-symbols times = record { low = omega arith; no-name = refl; no-variable = refl; no-number = refl }
+symbols underscore = record { apart = λ h. omega arith; no-name = refl; no-variable = refl; no-number = refl; no-sign = refl }
+symbols not = record { apart = λ h. omega arith; no-name = refl; no-variable = refl; no-number = refl; no-sign = refl }
+symbols minus = record { apart = λ h. omega arith; no-name = refl; no-variable = refl; no-number = refl; no-sign = refl }
+symbols opening = record { apart = λ h. omega arith; no-name = refl; no-variable = refl; no-number = refl; no-sign = refl }
+symbols closing = record { apart = λ h. omega arith; no-name = refl; no-variable = refl; no-number = refl; no-sign = refl }
+symbols comma = record { apart = λ h. omega arith; no-name = refl; no-variable = refl; no-number = refl; no-sign = refl }
+symbols dot = record { apart = λ h. omega arith; no-name = refl; no-variable = refl; no-number = refl; no-sign = refl }
+symbols :- = record { apart = λ h. omega arith; no-name = refl; no-variable = refl; no-number = refl; no-sign = refl }
+symbols plus = record { apart = λ h. omega arith; no-name = refl; no-variable = refl; no-number = refl; no-sign = refl }
+symbols times = record { apart = λ h. omega arith; no-name = refl; no-variable = refl; no-number = refl; no-sign = refl }
+symbols bar = record { apart = λ h. omega arith; no-name = refl; no-variable = refl; no-number = refl; no-sign = refl }
 
 pub record SignNumber (n : ℕ) : Type 0 where
   pub low : 13 ≤ n
@@ -122,7 +124,7 @@ fire-by-number (on-string m k) (variable b) = refl
 fire-by-number (on-string m k) (string b) = refl
 fire-by-number (on-string m k) (number n) = refl
 fire-by-number (on-string m k) (comparison r) = rw (ne-eqb (sign-number r) 22 (λ e. omega (arith, signs r .high)))
-fire-by-number (on-string m k) (symbol s) = rw (ne-eqb (symbol-number s) 22 (λ e. omega (arith, symbols s .low)))
+fire-by-number (on-string m k) (symbol s) = rw (ne-eqb (symbol-number s) 22 (λ e. omega (arith, symbols s .apart (omega arith))))
 fire-by-number (on-string m k) (stray b) = refl
 fire-by-number (on-number m k) (name b) = refl
 fire-by-number (on-number m k) (variable b) = refl
@@ -136,15 +138,15 @@ fire-by-number (on-comparison k) (variable b) = refl
 fire-by-number (on-comparison k) (string b) = refl
 fire-by-number (on-comparison k) (number n) = refl
 fire-by-number (on-comparison k) (comparison r) = rw (le-leb 13 (sign-number r) (signs r .low), le-leb (sign-number r) 19 (signs r .high))
-fire-by-number (on-comparison k) (symbol s) = rw (lt-leb 13 (symbol-number s) (omega (arith, symbols s .low)))
+fire-by-number (on-comparison k) (symbol s) = rw (symbols s .no-sign)
 fire-by-number (on-comparison k) (stray b) = refl
 fire-by-number (on m z x) (name b) = rw (unlike (symbol-number z) 0 (symbols z .no-name))
 fire-by-number (on m z x) (variable b) = rw (unlike (symbol-number z) 2 (symbols z .no-variable))
-fire-by-number (on m z x) (string b) = rw (ne-eqb 22 (symbol-number z) (λ e. omega (arith, symbols z .low)))
+fire-by-number (on m z x) (string b) = rw (ne-eqb 22 (symbol-number z) (λ e. omega (arith, symbols z .apart (omega arith))))
 fire-by-number (on m z x) (number n) = rw (unlike (symbol-number z) 4 (symbols z .no-number))
-fire-by-number (on m z x) (comparison r) = rw (ne-eqb (sign-number r) (symbol-number z) (λ e. omega (arith, signs r .low, symbols z .low)))
+fire-by-number (on m z x) (comparison r) = rw (ne-eqb (sign-number r) (symbol-number z) (λ e. omega (arith, signs r .high, symbols z .apart (omega (arith, signs r .low)))))
 fire-by-number (on m z x) (symbol s) = refl
-fire-by-number (on m z x) (stray b) = rw (ne-eqb 21 (symbol-number z) (λ e. omega (arith, symbols z .low)))
+fire-by-number (on m z x) (stray b) = rw (ne-eqb 21 (symbol-number z) (λ e. omega (arith, symbols z .apart (omega arith))))
 
 pub try-by-number : {S : Type 0} (ms : List (Move S)) (t : Token) (k : ℕ) → token-number t ≡ k → try ms t ≡ try-number ms k t
 unfolding try try-number
@@ -161,18 +163,19 @@ unfoldable pub rebuilt : ℕ → Token → Token
 unfolding made-up
 rebuilt k t = getD (made-up t) k (comparison (sign-of t))
 
-rebuilt-symbol : (s : Symbol) → symbol s ≡ rebuilt (symbol-number s) (symbol s)
+rebuilt-symbol : (s : Symbol) → symbol-number s ≤ 19 → symbol s ≡ rebuilt (symbol-number s) (symbol s)
 unfolding rebuilt symbol-number
-rebuilt-symbol underscore = refl
-rebuilt-symbol not = refl
-rebuilt-symbol minus = refl
-rebuilt-symbol opening = refl
-rebuilt-symbol closing = refl
-rebuilt-symbol comma = refl
-rebuilt-symbol dot = refl
-rebuilt-symbol :- = refl
-rebuilt-symbol plus = refl
-rebuilt-symbol times = refl
+rebuilt-symbol underscore h = refl
+rebuilt-symbol not h = refl
+rebuilt-symbol minus h = refl
+rebuilt-symbol opening h = refl
+rebuilt-symbol closing h = refl
+rebuilt-symbol comma h = refl
+rebuilt-symbol dot h = refl
+rebuilt-symbol :- h = refl
+rebuilt-symbol plus h = refl
+rebuilt-symbol times h = refl
+rebuilt-symbol bar h = absurd (omega arith)
 
 rebuilt-here : (t : Token) → token-number t ≤ 19 → t ≡ rebuilt (token-number t) t
 unfolding token-number rebuilt bytes-of value-of sign-of
@@ -181,10 +184,10 @@ rebuilt-here (variable b) h = refl
 rebuilt-here (string b) h = absurd (omega arith)
 rebuilt-here (number n) h = refl
 rebuilt-here (comparison r) h = inv (List·getD-eq-default (made-up (comparison r)) (comparison r) (signs r .low))
-rebuilt-here (symbol s) h = rebuilt-symbol s
+rebuilt-here (symbol s) h = rebuilt-symbol s h
 rebuilt-here (stray b) h = absurd (omega arith)
 
--- which token it is, where its number is known; a stray byte has the number 21, and a string 22
+-- which token it is, where its number is known; a stray byte has the number 21, a string 22, and `|` 23
 pub token-by-number : (t : Token) (k : ℕ) → token-number t ≡ k → k ≤ 19 → t ≡ rebuilt k t
 token-by-number t k e h = rw e at (rebuilt-here t (rw e h))
 
@@ -199,5 +202,5 @@ string-by-number (variable b) e = absurd (omega arith)
 string-by-number (string b) e = refl
 string-by-number (number n) e = absurd (omega arith)
 string-by-number (comparison r) e = absurd (omega (arith, signs r .high))
-string-by-number (symbol s) e = absurd (omega (arith, symbols s .low))
+string-by-number (symbol s) e = absurd (omega (arith, symbols s .apart (omega arith)))
 string-by-number (stray b) e = absurd (omega arith)

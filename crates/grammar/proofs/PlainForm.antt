@@ -5,12 +5,12 @@ use mathlib.Core.Option.{Option, none, some}
 use mathlib.Core.List.{[]}
 use Prim.Native.Nat.{zero, suc}
 use Rattle.grammar.specs.Tokens.{Sign, sign, <>}
-use Rattle.grammar.specs.Trees.{Sequence, empty, _then_, Term, name, variable, string, number, negative, anonymous, bare, parentheses, arguments, Atom, atom, Literal, positive, negated, compared, computed, Rule, fact, clause, Program}
+use Rattle.grammar.specs.Trees.{Sequence, empty, _then_, Term, name, variable, string, number, negative, anonymous, bare, parentheses, arguments, Atom, atom, Literal, positive, negated, compared, computed, Heads, head, also, Rule, fact, clause, Program}
 use Rattle.grammar.specs.Spelling.{inside, spell-argument, spell-nth-literal}
 use Rattle.grammar.specs.Variables.{Variables}
-use Rattle.grammar.specs.Abstraction.{term-for, terms-for, arguments-for, atom-for, comparison-for, literal-for, literals-for, rule-for, rules-for}
-use Rattle.grammar.specs.PlainForm.{each, plain-term, plain-arguments, plain-atom, plain-sign, plain-literal, plain-head, plain-rule, plain-form}
-use Rattle.grammar.proofs.Plainer.{plainer-term, plainer-listed, plainer-atom, plainer-compared, plainer-literal}
+use Rattle.grammar.specs.Abstraction.{term-for, terms-for, arguments-for, atom-for, comparison-for, literal-for, literals-for, heads-for, rule-for, rules-for}
+use Rattle.grammar.specs.PlainForm.{each, plain-term, plain-arguments, plain-atom, plain-sign, plain-literal, plain-heads, plain-head, plain-rule, plain-form}
+use Rattle.grammar.proofs.Plainer.{plainer-term, plainer-listed, plainer-compared, plainer-literal, plainer-heads}
 
 -- ---- the same rules
 
@@ -53,11 +53,16 @@ module _ {ground : Bool} where
   same-literals vs empty = refl
   same-literals vs (ls then l) = rw (same-literals vs ls, plainer-listed {ground = ground} spell-nth-literal plain-literal (λ k x. plainer-literal _ x) ls .same vs, same-literal _ l)
 
+  same-heads : (hs : Heads ground) → heads-for (plain-heads hs) ≡ heads-for hs
+  unfolding plain-heads heads-for
+  same-heads (head x) = rw (same-atom [] x)
+  same-heads (also u hs x) = rw (same-heads hs, plainer-heads inside hs .same [], same-atom _ x)
+
   same-rule : (r : Rule ground) → rule-for (plain-rule r) ≡ rule-for r
   unfolding plain-rule plain-head rule-for each
-  same-rule (fact x) = rw (same-atom [] x)
+  same-rule (fact hs) = rw (same-heads hs)
   same-rule (clause u none ls l) = rw (same-literals [] (ls then l))
-  same-rule (clause u (some x) ls l) = rw (same-atom [] x, plainer-atom inside x .same [], same-literals _ (ls then l))
+  same-rule (clause u (some hs) ls l) = rw (same-heads hs, plainer-heads inside hs .same [], same-literals _ (ls then l))
 
   -- the plain form stands for the same rules
   pub same-rules : (p : Program ground) → rules-for (plain-form p) ≡ rules-for p
@@ -101,14 +106,19 @@ module _ {ground : Bool} where
   again-literal (compared t r u) = rw (again-term t, again-sign r, again-term u)
   again-literal (computed t r u o v) = rw (again-term t, again-sign r, again-term u, again-term v)
 
-  again-head : (h : Option (Atom ground)) → plain-head (plain-head h) ≡ plain-head h
+  again-heads : (hs : Heads ground) → plain-heads (plain-heads hs) ≡ plain-heads hs
+  unfolding plain-heads
+  again-heads (head x) = rw (again-atom x)
+  again-heads (also u hs x) = rw (again-heads hs, again-atom x)
+
+  again-head : (h : Option (Heads ground)) → plain-head (plain-head h) ≡ plain-head h
   unfolding plain-head
   again-head none = refl
-  again-head (some x) = rw (again-atom x)
+  again-head (some hs) = rw (again-heads hs)
 
   again-rule : (r : Rule ground) → plain-rule (plain-rule r) ≡ plain-rule r
   unfolding plain-rule
-  again-rule (fact x) = rw (again-atom x)
+  again-rule (fact hs) = rw (again-heads hs)
   again-rule (clause u h ls l) = rw (again-head h, again-each plain-literal again-literal ls, again-literal l)
 
   -- the plain form is its own plain form

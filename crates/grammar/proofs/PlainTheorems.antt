@@ -8,7 +8,7 @@ use native.Mathlib.Nat.{le-refl}
 use lib.ListN.{length}
 use Rattle.reading.specs.Reading.{Placed, tokens, unplaced, Within, tree, Reading, read}
 use Rattle.meaning.specs.Rules.{Bytes}
-use Rattle.grammar.specs.Tokens.{underscore, not, minus, opening, closing, comma, dot, :-, plus, times, Token, name, variable, string, number, comparison, symbol, stray, sign}
+use Rattle.grammar.specs.Tokens.{underscore, not, minus, opening, closing, comma, dot, :-, plus, times, bar, Token, name, variable, string, number, comparison, symbol, stray, sign}
 use Rattle.meaning.specs.Domain.{unequal}
 use Rattle.grammar.specs.Trees.{Program}
 use Rattle.grammar.specs.Spelling.{spell}
@@ -59,6 +59,7 @@ no-gap (symbol dot) u us h = refl
 no-gap (symbol :-) u us h = refl
 no-gap (symbol plus) u us h = refl
 no-gap (symbol times) u us h = refl
+no-gap (symbol bar) u us h = refl
 no-gap (stray b) u us h = refl
 
 same-blank : (t u : Token) (us : List Token) → (run-together t u ≡ false) ⊎ ((b : Bytes) × (t ≡ symbol not) × (u ≡ name b)) → blank t (u ∷ us) ≡ gap t (u ∷ us)

@@ -10,12 +10,12 @@ use Rattle.reading.specs.Reading.{Marked, _at_, _▹_, tokens, Within}
 use Rattle.reading.proofs.Lists.{tokens-append, within-split, within-join}
 use Rattle.meaning.specs.Domain.{Operation, unequal}
 use Rattle.meaning.specs.Rules.{Bytes}
-use Rattle.grammar.specs.Tokens.{Sign, sign, <>, Symbol, underscore, not, minus, opening, closing, comma, dot, :-, plus, times, Token, comparison, symbol}
-use Rattle.grammar.specs.Trees.{Sequence, empty, _then_, count, Term, name, variable, string, number, negative, anonymous, Arguments, bare, parentheses, arguments, Atom, atom, Literal, positive, negated, compared, computed, Rule, fact, clause, Program}
-use Rattle.grammar.specs.Spelling.{Mark, inside, Spelling, mere, with-commas, spell-term, spell-argument, spell-arguments, spell-signed, spell-atom, spell-operation, spell-compared, spell-literal, spell-nth-literal, spell-head, spell-rule, spell}
+use Rattle.grammar.specs.Tokens.{Sign, sign, <>, Symbol, underscore, not, minus, opening, closing, comma, dot, :-, plus, times, bar, Token, comparison, symbol}
+use Rattle.grammar.specs.Trees.{Sequence, empty, _then_, count, Term, name, variable, string, number, negative, anonymous, Arguments, bare, parentheses, arguments, Atom, atom, Literal, positive, negated, compared, computed, Heads, head, also, head-count, Rule, fact, clause, Program}
+use Rattle.grammar.specs.Spelling.{Mark, inside, Spelling, mere, with-commas, spell-term, spell-argument, spell-arguments, spell-signed, spell-atom, spell-operation, spell-compared, spell-literal, spell-nth-literal, spell-heads, spell-head, spell-rule, spell}
 use Rattle.grammar.specs.Variables.{Variables, meet-symbol, meet, met}
 use Rattle.grammar.specs.Sizes.{too-big, too-long, is-underscore, too-many-variables, refusal, fault, language}
-use Rattle.grammar.specs.PlainForm.{each, plain-term, plain-arguments, plain-atom, plain-sign, plain-literal, plain-head, plain-rule, plain-form}
+use Rattle.grammar.specs.PlainForm.{each, plain-term, plain-arguments, plain-atom, plain-sign, plain-literal, plain-heads, plain-head, plain-rule, plain-form}
 use Rattle.grammar.specs.Writing.{digits, symbol-bytes, comparison-bytes, sign-bytes, token-bytes, is-word-symbol, is-word}
 use Rattle.grammar.proofs.Variables.{met-append, met-seen}
 
@@ -32,6 +32,7 @@ is-not dot = false
 is-not :- = false
 is-not plus = false
 is-not times = false
+is-not bar = false
 
 unfoldable pub behind-not : Bool → List Token → Bytes
 behind-not false ts = []
@@ -70,6 +71,11 @@ pub count-each : {A : Type 0} (f : A → A) (xs : Sequence A) → count (each f 
 unfolding count each
 count-each f empty = refl
 count-each f (xs then x) = ap suc (count-each f xs)
+
+pub count-heads : {ground : Bool} (hs : Heads ground) → head-count (plain-heads hs) ≡ head-count hs
+unfolding head-count plain-heads
+count-heads (head x) = refl
+count-heads (also u hs x) = ap suc (count-heads hs)
 
 -- ---- plainer spellings
 
@@ -176,14 +182,19 @@ module _ {ground : Bool} where
 
   -- ---- rules and programs
 
-  plainer-head : (m : Mark) (h : Option (Atom ground)) → Plainer ground (spell-head m h) (spell-head m (plain-head h))
+  pub plainer-heads : (m : Mark) (hs : Heads ground) → Plainer ground (spell-heads m hs) (spell-heads m (plain-heads hs))
+  unfolding spell-heads plain-heads is-not
+  plainer-heads m (head x) = plainer-atom m x
+  plainer-heads m (also u hs x) = rw (count-heads hs) (join (plainer-heads m hs) (behind bar inside refl (plainer-atom _ x)))
+
+  plainer-head : (m : Mark) (h : Option (Heads ground)) → Plainer ground (spell-head m h) (spell-head m (plain-head h))
   unfolding spell-head plain-head is-not gap behind-not
   plainer-head m none = one _ (λ ts. refl)
-  plainer-head m (some x) = before :- refl (plainer-atom m x)
+  plainer-head m (some hs) = before :- refl (plainer-heads m hs)
 
   plainer-rule : (m : Mark) (r : Rule ground) → Plainer ground (spell-rule m r) (spell-rule m (plain-rule r))
   unfolding spell-rule plain-rule is-not
-  plainer-rule m (fact x) = before dot refl (plainer-atom m x)
+  plainer-rule m (fact hs) = before dot refl (plainer-heads m hs)
   plainer-rule m (clause u h ls l) = rw (count-each plain-literal ls) (before dot refl (join (join (plainer-head m h) (plainer-listed spell-nth-literal plain-literal (λ k x. plainer-literal _ x) ls)) (plainer-literal _ l)))
 
   pub plainer : (p : Program ground) → Plainer ground (spell p) (spell (plain-form p))

@@ -7,12 +7,12 @@ use Prim.Native.Nat.{suc}
 use Rattle.reading.specs.Reading.{_at_, _▹_}
 use Rattle.reading.specs.Machine.{Step}
 use Rattle.meaning.specs.Rules.{Bytes}
-use Rattle.grammar.specs.Tokens.{not, minus, opening, Token, symbol, comparison}
-use Rattle.grammar.specs.Trees.{empty, count, Term, bare, Atom, atom, Literal, positive, negated, compared, computed}
-use Rattle.grammar.specs.Spelling.{Mark, inside, rule, Spelling, mere, with-commas, spell-term, spell-argument, spell-arguments, spell-signed, spell-atom, spell-operation, spell-compared, spell-literal, spell-nth-literal, spell-head, spell-rule, spell}
+use Rattle.grammar.specs.Tokens.{not, minus, opening, bar, Token, symbol, comparison}
+use Rattle.grammar.specs.Trees.{empty, count, Term, bare, Atom, atom, Literal, positive, negated, compared, computed, Heads, head, also, Program}
+use Rattle.grammar.specs.Spelling.{Mark, inside, rule, Spelling, mere, with-commas, spell-term, spell-argument, spell-arguments, spell-signed, spell-atom, spell-operation, spell-compared, spell-literal, spell-nth-literal, spell-heads, spell-head, spell-rule, spell}
 use Rattle.grammar.specs.Moves.{Move}
-use Rattle.grammar.specs.States.{BodyContext, AtomContext, head-behind, literal-in, not-in, TermContext, argument-in, left-in, right-in, operand-in, State, atom-wanted, atom-minus, named, opened, closed, term-wanted, term-minus, term-read, atom-mark, term-mark}
-use Rattle.grammar.specs.Machine.{after-literal, after-atom, after-term, else-wanted, else-minus, else-named, a-term, moves, step}
+use Rattle.grammar.specs.States.{BodyContext, AtomContext, head-behind, head-after, literal-in, not-in, TermContext, argument-in, left-in, right-in, operand-in, State, atom-wanted, atom-minus, named, opened, closed, term-wanted, term-minus, term-read, atom-mark, term-mark}
+use Rattle.grammar.specs.Machine.{after-literal, after-heads, after-atom, after-term, else-wanted, else-minus, else-named, a-term, moves, step}
 use Rattle.grammar.proofs.Moves.{OnMove, OnMoves, on-append, on-free, try-all}
 
 -- the tokens before a literal, an atom, a term
@@ -21,6 +21,7 @@ before-literal c = spell (c .rules) ++ spell-head (rule (suc (count (c .rules)))
 
 unfoldable pub before-atom : {ground : Bool} → AtomContext ground → Spelling
 before-atom (head-behind p) = spell p
+before-atom (head-after u p hs) = spell p ++ spell-heads (rule (suc (count p))) hs ▹ mere bar
 before-atom (literal-in c) = before-literal c
 before-atom (not-in c) = before-literal c ▹ (symbol not at atom-mark (literal-in c))
 
@@ -52,9 +53,14 @@ module _ {ground : Bool} where
   unfolding OnMoves OnMove after-literal spelled before-atom before-literal with-commas spell spell-rule atom-mark
   after-literal-sound s c l e = (rw e (simp append-assoc), (rw e (simp append-assoc), tt))
 
+  after-heads-sound : (s : State ground) (p : Program ground) (hs : Heads ground) → spelled s ≡ spell p ++ spell-heads (rule (suc (count p))) hs → Sound s (after-heads p hs)
+  unfolding OnMoves OnMove after-heads spelled before-atom before-literal spell spell-rule spell-head with-commas
+  after-heads-sound s p hs e = (rw e (simp append-assoc), on-free (Adds s) ground _ (λ u. (rw e (simp (append-assoc, append-nil)), (rw e, tt))))
+
   after-atom-sound : (s : State ground) (a : AtomContext ground) (x : Atom ground) → spelled s ≡ before-atom a ++ spell-atom (atom-mark a) x → Sound s (after-atom a x)
-  unfolding OnMoves OnMove after-atom spelled before-atom before-literal atom-mark spell-literal spell spell-rule spell-head with-commas
-  after-atom-sound s (head-behind p) x e = (rw e (simp append-assoc), on-free (Adds s) ground _ (λ u. (rw e (simp (append-assoc, append-nil)), tt)))
+  unfolding after-atom before-atom atom-mark spell-literal spell-heads
+  after-atom-sound s (head-behind p) x e = after-heads-sound s p (head x) e
+  after-atom-sound s (head-after u p hs) x e = after-heads-sound s p (also u hs x) (e ∙ simp append-assoc)
   after-atom-sound s (literal-in c) x e = after-literal-sound s c (positive x) e
   after-atom-sound s (not-in c) x e = after-literal-sound s c (negated x) (e ∙ simp append-assoc)
 
@@ -72,18 +78,21 @@ module _ {ground : Bool} where
   else-wanted-sound : (a : AtomContext ground) → Sound (atom-wanted a) (else-wanted a)
   unfolding OnMoves OnMove else-wanted spelled before-atom before-term before-literal atom-mark term-mark spell-term spell-head with-commas
   else-wanted-sound (head-behind p) = on-free (Adds (atom-wanted (head-behind p))) ground _ (λ u. (append-nil _, tt))
+  else-wanted-sound (head-after u p hs) = tt
   else-wanted-sound (literal-in c) = ((λ b. refl), ((λ b. refl), ((λ n. refl), (refl, (refl, tt)))))
   else-wanted-sound (not-in c) = tt
 
   else-minus-sound : (a : AtomContext ground) → Sound (atom-minus a) (else-minus a)
   unfolding OnMoves OnMove else-minus spelled before-atom before-term atom-mark term-mark spell-term
   else-minus-sound (head-behind p) = tt
+  else-minus-sound (head-after u p hs) = tt
   else-minus-sound (literal-in c) = ((λ n. simp append-assoc), tt)
   else-minus-sound (not-in c) = tt
 
   else-named-sound : (a : AtomContext ground) (s : Bool) (b : Bytes) → Sound (named a s b) (else-named a s b)
   unfolding OnMoves OnMove else-named spelled before-atom before-term atom-mark spell-term spell-signed
   else-named-sound (head-behind p) s b = tt
+  else-named-sound (head-after u p hs) s b = tt
   else-named-sound (literal-in c) true b = tt
   else-named-sound (literal-in c) false b = ((λ r. refl), tt)
   else-named-sound (not-in c) s b = tt

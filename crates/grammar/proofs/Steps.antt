@@ -6,7 +6,7 @@ use Prim.Native.Nat.{ℕ, _≤_}
 use native.Mathlib.Omega.{arith}
 use borrow.Author.Tests.{ne-eqb}
 use Rattle.meaning.specs.Rules.{Bytes}
-use Rattle.grammar.specs.Tokens.{underscore, not, minus, opening, closing, comma, dot, :-, plus, times, Token, name, variable, string, number, comparison, symbol, stray}
+use Rattle.grammar.specs.Tokens.{underscore, not, minus, opening, closing, comma, dot, :-, plus, times, bar, Token, name, variable, string, number, comparison, symbol, stray}
 use Rattle.grammar.specs.Trees.{empty}
 use Rattle.grammar.specs.States.{BodyContext, AtomContext, literal-in, argument-in, left-in, atom-wanted, atom-minus, opened, term-wanted, term-minus, term-mark}
 use Rattle.grammar.specs.Moves.{symbol-number, token-number, when, fire, either, try}
@@ -38,6 +38,7 @@ module _ {ground : Bool} where
   left-word c (symbol :-) k e l h = absurd (omega arith)
   left-word c (symbol plus) k e l h = absurd (omega arith)
   left-word c (symbol times) k e l h = absurd (omega arith)
+  left-word c (symbol bar) k e l h = absurd (omega arith)
   left-word c (stray b) k e l h = absurd (omega arith)
 
   left-string : (c : BodyContext ground) (t : Token) (b : Bytes) → t ≡ string b → step (atom-wanted (literal-in c)) t ≡ step (term-wanted (left-in c)) t

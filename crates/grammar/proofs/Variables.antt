@@ -10,8 +10,8 @@ use Rattle.reading.specs.Reading.{tokens, seen}
 use Rattle.reading.proofs.Lists.{tokens-append}
 use Rattle.meaning.specs.Rules.{Bytes}
 use Rattle.meaning.specs.Values.{same-bytes}
-use Rattle.grammar.specs.Trees.{Term, name, variable, string, number, negative, anonymous, Atom, atom, Literal, positive, negated, compared, computed}
-use Rattle.grammar.specs.Spelling.{Mark, Spelling, spell-term, spell-signed, spell-atom, spell-compared, spell-literal}
+use Rattle.grammar.specs.Trees.{Term, name, variable, string, number, negative, anonymous, Atom, atom, Literal, positive, negated, compared, computed, Heads, head, also}
+use Rattle.grammar.specs.Spelling.{Mark, Spelling, spell-term, spell-signed, spell-atom, spell-compared, spell-literal, spell-heads}
 use Rattle.grammar.specs.Variables.{Variables, number-of, meet-symbol, meet, met}
 use Rattle.grammar.specs.Sizes.{language}
 
@@ -57,6 +57,11 @@ module _ {ground : Bool} (m m′ : Mark) where
   literal-tokens (compared t r u) = rw (tokens-append (spell-term m t), tokens-append (spell-term m′ t), term-tokens t)
   literal-tokens (computed t r u o v) = simp (tokens-append, term-tokens t)
 
+  heads-tokens : (hs : Heads ground) → tokens (spell-heads m hs) ≡ tokens (spell-heads m′ hs)
+  unfolding spell-heads
+  heads-tokens (head x) = atom-tokens x
+  heads-tokens (also u hs x) = rw (tokens-append (spell-heads m hs), tokens-append (spell-heads m′ hs), heads-tokens hs)
+
   pub met-term : (vs : Variables) (t : Term ground) → met vs (spell-term m t) ≡ met vs (spell-term m′ t)
   met-term vs t = met-tokens vs _ _ (term-tokens t)
 
@@ -65,6 +70,9 @@ module _ {ground : Bool} (m m′ : Mark) where
 
   pub met-literal : (vs : Variables) (l : Literal ground) → met vs (spell-literal m l) ≡ met vs (spell-literal m′ l)
   met-literal vs l = met-tokens vs _ _ (literal-tokens l)
+
+  pub met-heads : (vs : Variables) (hs : Heads ground) → met vs (spell-heads m hs) ≡ met vs (spell-heads m′ hs)
+  met-heads vs hs = met-tokens vs _ _ (heads-tokens hs)
 
 -- ---- no variable is met in a sign and a name
 

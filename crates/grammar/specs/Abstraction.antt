@@ -1,7 +1,7 @@
 -- What a tree stands for, in the types of the meaning: `p()` is `p`, `-0` is `0`, `<>` is `!=`, and a variable is its number.
 use mathlib.Core.Bool.{Bool, true}
 use mathlib.Core.Option.{none, some}
-use mathlib.Core.List.{List, []}
+use mathlib.Core.List.{List, [], _∷_}
 use lib.IntN.{pos, negℤ}
 use lib.ListN.{length}
 use Rattle.reading.specs.Reading.{_▹_}
@@ -9,8 +9,8 @@ use Rattle.meaning.specs.Domain.{Comparison, unequal}
 use Rattle.meaning.specs.Values.{Value}
 use Rattle.meaning.specs.Rules.{Term as RuleTerm, constant, Atom as RuleAtom, Fact, Side, plain, Literal as RuleLiteral, builtin, Rule as MeantRule}
 use Rattle.grammar.specs.Tokens.{Sign, sign, <>}
-use Rattle.grammar.specs.Trees.{Sequence, empty, _then_, Term, name, variable, string, number, negative, anonymous, Arguments, bare, parentheses, arguments, Atom, atom, Literal, positive, negated, compared, computed, Rule, fact, clause, Program}
-use Rattle.grammar.specs.Spelling.{inside, with-commas, spell-term, spell-argument, spell-nth-literal, spell-atom, spell-compared}
+use Rattle.grammar.specs.Trees.{Sequence, empty, _then_, Term, name, variable, string, number, negative, anonymous, Arguments, bare, parentheses, arguments, Atom, atom, Literal, positive, negated, compared, computed, Heads, head, also, Rule, fact, clause, Program}
+use Rattle.grammar.specs.Spelling.{inside, with-commas, spell-term, spell-argument, spell-nth-literal, spell-compared, spell-heads}
 use Rattle.grammar.specs.Variables.{Variables, number-of, met}
 
 -- vs: the variables of the rule that are met before
@@ -49,10 +49,15 @@ unfoldable pub literals-for : {ground : Bool} → Variables → Sequence (Litera
 literals-for vs empty = []
 literals-for vs (ls then l) = literals-for vs ls ▹ literal-for (met vs (with-commas spell-nth-literal ls)) l
 
+-- the variables of a rule are met from its first head on
+unfoldable pub heads-for : {ground : Bool} → Heads ground → List (RuleAtom (RuleTerm Value))
+heads-for (head x) = atom-for [] x ∷ []
+heads-for (also u hs x) = heads-for hs ▹ atom-for (met [] (spell-heads inside hs)) x
+
 unfoldable pub rule-for : {ground : Bool} → Rule ground → MeantRule Value
-rule-for (fact x) = record { head = some (atom-for [] x); body = [] }
-rule-for (clause u none ls l) = record { head = none; body = literals-for [] (ls then l) }
-rule-for (clause u (some x) ls l) = record { head = some (atom-for [] x); body = literals-for (met [] (spell-atom inside x)) (ls then l) }
+rule-for (fact hs) = record { heads = heads-for hs; body = [] }
+rule-for (clause u none ls l) = record { heads = []; body = literals-for [] (ls then l) }
+rule-for (clause u (some hs) ls l) = record { heads = heads-for hs; body = literals-for (met [] (spell-heads inside hs)) (ls then l) }
 
 -- the rules of a program, in text order
 unfoldable pub rules-for : {ground : Bool} → Program ground → List (MeantRule Value)
@@ -79,7 +84,8 @@ argument-values-for parentheses = []
 argument-values-for (arguments ts t) = values-for (ts then t)
 
 unfoldable pub fact-for : Rule true → Fact Value
-fact-for (fact (atom s b xs)) = record { negative = s; name = b; arguments = argument-values-for xs }
+fact-for (fact (head (atom s b xs))) = record { negative = s; name = b; arguments = argument-values-for xs }
+fact-for (fact (also u hs x)) = absurd u
 fact-for (clause u h ls l) = absurd u
 
 -- in text order

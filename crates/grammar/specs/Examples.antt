@@ -6,8 +6,9 @@ use lib.ListN.{replicate}
 use Rattle.meaning.specs.Domain.{equal, unequal, Operation}
 use Rattle.meaning.specs.Values.{Value}
 use Rattle.meaning.specs.Rules.{Term, constant, positive, builtin, Side, plain}
-use Rattle.grammar.specs.Tokens.{<>, underscore, not, minus, opening, closing, comma, :-, plus, name, variable, string, number, comparison, symbol, stray}
+use Rattle.grammar.specs.Tokens.{<>, underscore, not, minus, opening, closing, comma, :-, plus, bar, name, variable, string, number, comparison, symbol, stray}
 use Rattle.grammar.specs.Example.{reads, refuses, Example, PlainExample}
+use Rattle.grammar.specs.HeadExamples.{head-examples, bar-examples}
 use Rattle.grammar.specs.Words.{program, facts, a, X, equals, end, close, listed, repeated, call, body, too-great, value-a, value, atom-a, fact, rule, constraint, variables}
 
 -- 8 arguments, and 9; the ninth is blamed and not its comma, and a minus before its number
@@ -120,13 +121,15 @@ rule-forms =
     ∷ []
 
 unfoldable pub examples : List Example
-examples = argument-examples ++ literal-examples ++ word-examples ++ string-examples ++ number-examples ++ variable-examples ++ rule-examples ++ wrong-examples ++ rule-forms
+examples = argument-examples ++ head-examples ++ bar-examples ++ literal-examples ++ word-examples ++ string-examples ++ number-examples ++ variable-examples ++ rule-examples ++ wrong-examples ++ rule-forms
 
--- a():-not a(-0),-a,a<>X. is a:-not a(0),-a,a!=X.; :-X=1--0. is :-X=1-0.; :-X=-0- -10. is :-X=0--10.; a string stays as it is
+-- a():-not a(-0),-a,a<>X. is a:-not a(0),-a,a!=X.; :-X=1--0. is :-X=1-0.; :-X=-0- -10. is :-X=0--10.; a string stays as it is;
+-- a|-a():-a(). is a|-a:-a.
 unfoldable pub plain-examples : List PlainExample
 plain-examples =
     record { text = a ∷ symbol opening ∷ symbol closing ∷ symbol :- ∷ symbol not ∷ call (symbol minus ∷ number 0 ∷ symbol closing ∷ symbol comma ∷ symbol minus ∷ a ∷ symbol comma ∷ a ∷ comparison <> ∷ X ∷ end); plain = 97 ∷ 58 ∷ 45 ∷ 110 ∷ 111 ∷ 116 ∷ 32 ∷ 97 ∷ 40 ∷ 48 ∷ 41 ∷ 44 ∷ 45 ∷ 97 ∷ 44 ∷ 97 ∷ 33 ∷ 61 ∷ 88 ∷ 46 ∷ [] }
     ∷ record { text = symbol :- ∷ X ∷ equals ∷ number 1 ∷ symbol minus ∷ symbol minus ∷ number 0 ∷ end; plain = 58 ∷ 45 ∷ 88 ∷ 61 ∷ 49 ∷ 45 ∷ 48 ∷ 46 ∷ [] }
     ∷ record { text = symbol :- ∷ X ∷ equals ∷ symbol minus ∷ number 0 ∷ symbol minus ∷ symbol minus ∷ number 10 ∷ end; plain = 58 ∷ 45 ∷ 88 ∷ 61 ∷ 48 ∷ 45 ∷ 45 ∷ 49 ∷ 48 ∷ 46 ∷ [] }
     ∷ record { text = symbol :- ∷ string (97 ∷ 92 ∷ 34 ∷ []) ∷ comparison <> ∷ X ∷ end; plain = 58 ∷ 45 ∷ 34 ∷ 97 ∷ 92 ∷ 34 ∷ 34 ∷ 33 ∷ 61 ∷ 88 ∷ 46 ∷ [] }
+    ∷ record { text = a ∷ symbol bar ∷ symbol minus ∷ a ∷ symbol opening ∷ symbol closing ∷ symbol :- ∷ call close; plain = 97 ∷ 124 ∷ 45 ∷ 97 ∷ 58 ∷ 45 ∷ 97 ∷ 46 ∷ [] }
     ∷ []

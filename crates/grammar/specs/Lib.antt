@@ -8,6 +8,7 @@ pub mod PlainForm
 pub mod Writing
 pub mod Example
 pub mod Words
+pub mod HeadExamples
 pub mod Examples
 pub mod Moves
 pub mod States

@@ -5,14 +5,14 @@ use mathlib.Core.List.{List, [], _∷_, _++_}
 use Rattle.reading.specs.Machine.{Step, Machine}
 use Rattle.meaning.specs.Domain.{Operation}
 use Rattle.meaning.specs.Rules.{Bytes}
-use Rattle.grammar.specs.Tokens.{underscore, not, minus, opening, closing, comma, dot, :-, plus, times, Token}
-use Rattle.grammar.specs.Trees.{Free, empty, _then_, Term, name, variable, string, number, negative, anonymous, bare, parentheses, arguments, Atom, atom, Literal, positive, negated, compared, computed, fact, clause, Program}
+use Rattle.grammar.specs.Tokens.{underscore, not, minus, opening, closing, comma, dot, :-, plus, times, bar, Token}
+use Rattle.grammar.specs.Trees.{Free, empty, _then_, Term, name, variable, string, number, negative, anonymous, bare, parentheses, arguments, Atom, atom, Literal, positive, negated, compared, computed, Heads, head, also, fact, clause, Program}
 use Rattle.grammar.specs.Spelling.{Mark, inside}
 use Rattle.grammar.specs.Moves.{Move, on-name, on-variable, on-string, on-number, on-comparison, on, free-moves, try}
-use Rattle.grammar.specs.States.{BodyContext, AtomContext, head-behind, literal-in, not-in, TermContext, argument-in, left-in, right-in, operand-in, State, atom-wanted, atom-minus, named, opened, closed, term-wanted, term-minus, term-read, atom-mark, term-mark}
+use Rattle.grammar.specs.States.{BodyContext, AtomContext, head-behind, head-after, literal-in, not-in, TermContext, argument-in, left-in, right-in, operand-in, State, atom-wanted, atom-minus, named, opened, closed, term-wanted, term-minus, term-read, atom-mark, term-mark}
 
 -- a body behind which nothing has been read yet; with one more literal; as a rule, with its last literal
-abbrev pub new-body : {ground : Bool} → Free ground → Program ground → Option (Atom ground) → BodyContext ground
+abbrev pub new-body : {ground : Bool} → Free ground → Program ground → Option (Heads ground) → BodyContext ground
 new-body u p h = record { free = u; rules = p; head = h; literals = empty }
 
 abbrev pub with-literal : {ground : Bool} → BodyContext ground → Literal ground → BodyContext ground
@@ -24,8 +24,12 @@ with-rule c l = c .rules then clause (c .free) (c .head) (c .literals) l
 unfoldable pub after-literal : {ground : Bool} → BodyContext ground → Literal ground → List (Move (State ground))
 after-literal c l = on inside comma (atom-wanted (literal-in (with-literal c l))) ∷ on inside dot (atom-wanted (head-behind (with-rule c l))) ∷ []
 
+unfoldable pub after-heads : {ground : Bool} → Program ground → Heads ground → List (Move (State ground))
+after-heads {ground} p hs = on inside dot (atom-wanted (head-behind (p then fact hs))) ∷ free-moves ground (λ u. on inside :- (atom-wanted (literal-in (new-body u p (some hs)))) ∷ on inside bar (atom-wanted (head-after u p hs)) ∷ [])
+
 unfoldable pub after-atom : {ground : Bool} → AtomContext ground → Atom ground → List (Move (State ground))
-after-atom {ground} (head-behind p) x = on inside dot (atom-wanted (head-behind (p then fact x))) ∷ free-moves ground (λ u. on inside :- (atom-wanted (literal-in (new-body u p (some x)))) ∷ [])
+after-atom (head-behind p) x = after-heads p (head x)
+after-atom (head-after u p hs) x = after-heads p (also u hs x)
 after-atom (literal-in c) x = after-literal c (positive x)
 after-atom (not-in c) x = after-literal c (negated x)
 
@@ -38,18 +42,21 @@ after-term (operand-in c t r u o) v = after-literal c (computed t r u o v)
 -- what else than an atom may begin
 unfoldable pub else-wanted : {ground : Bool} → AtomContext ground → List (Move (State ground))
 else-wanted {ground} (head-behind p) = free-moves ground (λ u. on (atom-mark (head-behind p)) :- (atom-wanted (literal-in (new-body u p none))) ∷ [])
+else-wanted (head-after u p hs) = []
 else-wanted (literal-in c) = let m = atom-mark (literal-in c) in on-variable m (λ b. term-read (left-in c) (variable (c .free) b)) ∷ on-string m (λ b. term-read (left-in c) (string b)) ∷ on-number m (λ n. term-read (left-in c) (number n)) ∷ on m underscore (term-read (left-in c) (anonymous (c .free))) ∷ on m not (atom-wanted (not-in c)) ∷ []
 else-wanted (not-in c) = []
 
 -- a literal that begins with a minus may be a comparison with a number on its left
 unfoldable pub else-minus : {ground : Bool} → AtomContext ground → List (Move (State ground))
 else-minus (head-behind p) = []
+else-minus (head-after u p hs) = []
 else-minus (literal-in c) = on-number inside (λ n. term-read (left-in c) (negative n)) ∷ []
 else-minus (not-in c) = []
 
 -- a literal that begins with a name may be a comparison with that name on its left
 unfoldable pub else-named : {ground : Bool} → AtomContext ground → Bool → Bytes → List (Move (State ground))
 else-named (head-behind p) s b = []
+else-named (head-after u p hs) s b = []
 else-named (literal-in c) true b = []
 else-named (literal-in c) false b = on-comparison (λ r. term-wanted (right-in c (name b) r)) ∷ []
 else-named (not-in c) s b = []
@@ -74,6 +81,7 @@ step s t = try (moves s) t
 
 unfoldable pub finished-atom : {ground : Bool} → AtomContext ground → Option (Program ground)
 finished-atom (head-behind p) = some p
+finished-atom (head-after u p hs) = none
 finished-atom (literal-in c) = none
 finished-atom (not-in c) = none
 

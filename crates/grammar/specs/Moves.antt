@@ -7,7 +7,7 @@ use lib.Dec.{eqb}
 use Rattle.reading.specs.Machine.{Step}
 use Rattle.meaning.specs.Domain.{Comparison, equal, unequal, less, at-most, greater, at-least}
 use Rattle.meaning.specs.Rules.{Bytes}
-use Rattle.grammar.specs.Tokens.{Sign, sign, <>, Symbol, underscore, not, minus, opening, closing, comma, dot, :-, plus, times, Token, name, variable, string, number, comparison, symbol, stray}
+use Rattle.grammar.specs.Tokens.{Sign, sign, <>, Symbol, underscore, not, minus, opening, closing, comma, dot, :-, plus, times, bar, Token, name, variable, string, number, comparison, symbol, stray}
 use Rattle.grammar.specs.Trees.{Free}
 use Rattle.grammar.specs.Spelling.{Mark, inside}
 
@@ -35,6 +35,7 @@ symbol-number :- = 9
 symbol-number minus = 10
 symbol-number plus = 11
 symbol-number times = 12
+symbol-number bar = 23
 
 unfoldable pub comparison-number : Comparison → ℕ
 comparison-number equal = 13

@@ -4,7 +4,7 @@ use mathlib.Core.Option.{Option, none, some}
 use Prim.Native.Nat.{zero, suc}
 use Rattle.meaning.specs.Domain.{unequal}
 use Rattle.grammar.specs.Tokens.{Sign, sign, <>}
-use Rattle.grammar.specs.Trees.{Sequence, empty, _then_, Term, name, variable, string, number, negative, anonymous, Arguments, bare, parentheses, arguments, Atom, atom, Literal, positive, negated, compared, computed, Rule, fact, clause, Program}
+use Rattle.grammar.specs.Trees.{Sequence, empty, _then_, Term, name, variable, string, number, negative, anonymous, Arguments, bare, parentheses, arguments, Atom, atom, Literal, positive, negated, compared, computed, Heads, head, also, Rule, fact, clause, Program}
 
 unfoldable pub each : {A : Type 0} → (A → A) → Sequence A → Sequence A
 each f empty = empty
@@ -37,12 +37,16 @@ plain-literal (negated x) = negated (plain-atom x)
 plain-literal (compared t r u) = compared (plain-term t) (plain-sign r) (plain-term u)
 plain-literal (computed t r u o v) = computed (plain-term t) (plain-sign r) (plain-term u) o (plain-term v)
 
-unfoldable pub plain-head : {ground : Bool} → Option (Atom ground) → Option (Atom ground)
+unfoldable pub plain-heads : {ground : Bool} → Heads ground → Heads ground
+plain-heads (head x) = head (plain-atom x)
+plain-heads (also u hs x) = also u (plain-heads hs) (plain-atom x)
+
+unfoldable pub plain-head : {ground : Bool} → Option (Heads ground) → Option (Heads ground)
 plain-head none = none
-plain-head (some x) = some (plain-atom x)
+plain-head (some hs) = some (plain-heads hs)
 
 unfoldable pub plain-rule : {ground : Bool} → Rule ground → Rule ground
-plain-rule (fact x) = fact (plain-atom x)
+plain-rule (fact hs) = fact (plain-heads hs)
 plain-rule (clause u h ls l) = clause u (plain-head h) (each plain-literal ls) (plain-literal l)
 
 unfoldable pub plain-form : {ground : Bool} → Program ground → Program ground

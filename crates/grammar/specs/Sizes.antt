@@ -5,10 +5,13 @@ use Prim.Native.Nat.{ℕ, suc}
 use lib.Dec.{ltb}
 use lib.ListN.{length}
 use Rattle.reading.specs.Reading.{Marked, Language}
-use Rattle.grammar.specs.Tokens.{Symbol, underscore, not, minus, opening, closing, comma, dot, :-, plus, times, Token, name, variable, string, number, comparison, symbol, stray}
+use Rattle.grammar.specs.Tokens.{Symbol, underscore, not, minus, opening, closing, comma, dot, :-, plus, times, bar, Token, name, variable, string, number, comparison, symbol, stray}
 use Rattle.grammar.specs.Trees.{Program}
-use Rattle.grammar.specs.Spelling.{Mark, inside, argument, literal, rule, spell}
+use Rattle.grammar.specs.Spelling.{Mark, inside, argument, literal, rule, head, spell}
 use Rattle.grammar.specs.Variables.{Variables, with-variable, meet}
+
+abbrev pub most-heads : ℕ
+most-heads = 4
 
 abbrev pub most-literals : ℕ
 most-literals = 16
@@ -56,6 +59,7 @@ too-many ground inside = false
 too-many ground (argument k) = ltb most-arguments k
 too-many ground (literal k) = ltb most-literals k
 too-many ground (rule k) = ltb (most-rules ground) k
+too-many ground (head k) = ltb most-heads k
 
 unfoldable pub is-underscore : Symbol → Bool
 is-underscore underscore = true
@@ -68,6 +72,7 @@ is-underscore dot = false
 is-underscore :- = false
 is-underscore plus = false
 is-underscore times = false
+is-underscore bar = false
 
 -- a variable that is one too many in its rule, each `_` counting
 unfoldable pub too-many-variables : Variables → Token → Bool

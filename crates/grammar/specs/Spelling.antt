@@ -6,13 +6,14 @@ use Prim.Native.Nat.{ℕ, suc}
 use Rattle.reading.specs.Reading.{Marked, _at_, _▹_}
 use Rattle.meaning.specs.Domain.{Operation}
 use Rattle.meaning.specs.Rules.{Bytes}
-use Rattle.grammar.specs.Tokens.{Sign, Symbol, underscore, not, minus, opening, closing, comma, dot, :-, plus, times, Token, symbol, comparison}
-use Rattle.grammar.specs.Trees.{Sequence, empty, _then_, count, Term, Arguments, bare, parentheses, arguments, Atom, atom, Literal, positive, negated, compared, computed, Rule, fact, clause, Program}
+use Rattle.grammar.specs.Tokens.{Sign, Symbol, underscore, not, minus, opening, closing, comma, dot, :-, plus, times, bar, Token, symbol, comparison}
+use Rattle.grammar.specs.Trees.{Sequence, empty, _then_, count, Term, Arguments, bare, parentheses, arguments, Atom, atom, Literal, positive, negated, compared, computed, Heads, also, head-count, Rule, fact, clause, Program}
 
--- what begins at a token: an argument of its atom, a literal of its body, a rule of its program, each numbered from 1; or nothing, inside of what it belongs to
+-- what begins at a token: an argument of its atom, a literal of its body, a rule of its program, each numbered from 1; a head of its rule, from
+-- the second on, since the first begins with the rule; or nothing, inside of what it belongs to
 pub data Mark : Type 0 where
   inside : Mark
-  argument literal rule : ℕ → Mark
+  argument literal rule head : ℕ → Mark
 
 abbrev pub Spelling : Type 0
 Spelling = List (Marked Token Mark)
@@ -71,13 +72,17 @@ spell-literal m (computed t r u o v) = spell-compared m t r u ++ mere (spell-ope
 abbrev pub spell-nth-literal : {ground : Bool} → ℕ → Literal ground → Spelling
 spell-nth-literal k l = spell-literal (literal k) l
 
--- `:-`, with the head before it if there is one
-unfoldable pub spell-head : {ground : Bool} → Mark → Option (Atom ground) → Spelling
+unfoldable pub spell-heads : {ground : Bool} → Mark → Heads ground → Spelling
+spell-heads m (Heads.head x) = spell-atom m x
+spell-heads m (also u hs x) = spell-heads m hs ++ mere bar ∷ spell-atom (Mark.head (suc (head-count hs))) x
+
+-- `:-`, with the heads before it if there are any
+unfoldable pub spell-head : {ground : Bool} → Mark → Option (Heads ground) → Spelling
 spell-head m none = symbol :- at m ∷ []
-spell-head m (some x) = spell-atom m x ▹ mere :-
+spell-head m (some hs) = spell-heads m hs ▹ mere :-
 
 unfoldable pub spell-rule : {ground : Bool} → Mark → Rule ground → Spelling
-spell-rule m (fact x) = spell-atom m x ▹ mere dot
+spell-rule m (fact hs) = spell-heads m hs ▹ mere dot
 spell-rule m (clause u h ls l) = spell-head m h ++ with-commas spell-nth-literal ls ++ spell-nth-literal (suc (count ls)) l ▹ mere dot
 
 unfoldable pub spell : {ground : Bool} → Program ground → Spelling

@@ -5,21 +5,22 @@ use Prim.Native.Nat.{suc}
 use Rattle.meaning.specs.Domain.{Operation}
 use Rattle.meaning.specs.Rules.{Bytes}
 use Rattle.grammar.specs.Tokens.{Sign}
-use Rattle.grammar.specs.Trees.{Free, Sequence, count, Term, Atom, Literal, Program}
-use Rattle.grammar.specs.Spelling.{Mark, inside, argument, literal, rule}
+use Rattle.grammar.specs.Trees.{Free, Sequence, count, Term, Atom, Literal, Heads, head-count, Program}
+use Rattle.grammar.specs.Spelling.{Mark, inside, argument, literal, rule, head}
 
 -- ---- contexts
 
--- a body: behind which rules and head it stands, and the literals before the next
+-- a body: behind which rules and heads it stands, and the literals before the next
 pub record BodyContext (ground : Bool) : Type 0 where
   pub free : Free ground
   pub rules : Program ground
-  pub head : Option (Atom ground)
+  pub head : Option (Heads ground)
   pub literals : Sequence (Literal ground)
 
--- where an atom stands: as the head of the rule behind these, as a literal, behind `not`
+-- where an atom stands: as the first head of the rule behind these, as a head behind these and `|`, as a literal, behind `not`
 pub data AtomContext (ground : Bool) : Type 0 where
   head-behind : Program ground → AtomContext ground
+  head-after : Free ground → Program ground → Heads ground → AtomContext ground
   literal-in not-in : BodyContext ground → AtomContext ground
 
 -- where a term stands: as an argument behind these, on the left of a comparison, on its right, behind an operation
@@ -30,7 +31,7 @@ pub data TermContext (ground : Bool) : Type 0 where
   operand-in : BodyContext ground → Term ground → Sign → Term ground → Operation → TermContext ground
 
 pub data State (ground : Bool) : Type 0 where
-  -- an atom is wanted: in a head's place any rule may begin or the text may end, and in a literal's place any literal may begin
+  -- an atom is wanted: in a first head's place any rule may begin or the text may end, and in a literal's place any literal may begin
   atom-wanted : AtomContext ground → State ground
   -- its name is wanted, behind a minus
   atom-minus : AtomContext ground → State ground
@@ -47,6 +48,7 @@ pub data State (ground : Bool) : Type 0 where
 
 unfoldable pub atom-mark : {ground : Bool} → AtomContext ground → Mark
 atom-mark (head-behind p) = rule (suc (count p))
+atom-mark (head-after u p hs) = Mark.head (suc (head-count hs))
 atom-mark (literal-in c) = literal (suc (count (c .literals)))
 atom-mark (not-in c) = inside
 

@@ -8,9 +8,9 @@ pub data Sign : Type 0 where
   sign : Comparison → Sign
   <> : Sign
 
--- _ not - ( ) , . :- + *
+-- _ not - ( ) , . :- + * |
 pub data Symbol : Type 0 where
-  underscore not minus opening closing comma dot :- plus times : Symbol
+  underscore not minus opening closing comma dot :- plus times bar : Symbol
 
 -- A name or a variable has its bytes, a string those between its quotes, a number its value: it is written in one way only.
 -- A stray byte is one where no token starts; no tree has it.

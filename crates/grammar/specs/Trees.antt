@@ -45,10 +45,19 @@ pub data Literal (ground : Bool) : Type 0 where
   compared : Term ground → Sign → Term ground → Literal ground
   computed : Term ground → Sign → Term ground → Operation → Term ground → Literal ground
 
--- a head and a dot; or perhaps a head, `:-`, the literals before the last, the last, and a dot
+-- one head, or heads, `|` and one more; on a facts line there is one
+pub data Heads (ground : Bool) : Type 0 where
+  head : Atom ground → Heads ground
+  also : Free ground → Heads ground → Atom ground → Heads ground
+
+unfoldable pub head-count : {ground : Bool} → Heads ground → ℕ
+head-count (head x) = 1
+head-count (also u hs x) = suc (head-count hs)
+
+-- heads and a dot; or perhaps heads, `:-`, the literals before the last, the last, and a dot
 pub data Rule (ground : Bool) : Type 0 where
-  fact : Atom ground → Rule ground
-  clause : Free ground → Option (Atom ground) → Sequence (Literal ground) → Literal ground → Rule ground
+  fact : Heads ground → Rule ground
+  clause : Free ground → Option (Heads ground) → Sequence (Literal ground) → Literal ground → Rule ground
 
 abbrev pub Program : Bool → Type 0
 Program ground = Sequence (Rule ground)

@@ -8,7 +8,7 @@ use lib.ListN.{length}
 use Rattle.reading.specs.Reading.{_▹_}
 use Rattle.meaning.specs.Rules.{Bytes}
 use Rattle.meaning.specs.Values.{same-bytes}
-use Rattle.grammar.specs.Tokens.{Symbol, underscore, not, minus, opening, closing, comma, dot, :-, plus, times, Token, name, variable, string, number, comparison, symbol, stray}
+use Rattle.grammar.specs.Tokens.{Symbol, underscore, not, minus, opening, closing, comma, dot, :-, plus, times, bar, Token, name, variable, string, number, comparison, symbol, stray}
 use Rattle.grammar.specs.Spelling.{Spelling}
 
 -- each variable once, in the order of first occurrences; none: a `_`, which is a variable of its own
@@ -37,6 +37,7 @@ meet-symbol vs dot = []
 meet-symbol vs :- = vs
 meet-symbol vs plus = vs
 meet-symbol vs times = vs
+meet-symbol vs bar = vs
 
 -- the variables met behind a token
 unfoldable pub meet : Variables → Token → Variables

@@ -7,7 +7,7 @@ use Prim.Native.Nat.{ℕ, zero, suc, _+_, _/_, _%_}
 use lib.Dec.{ltb}
 use Rattle.meaning.specs.Domain.{Comparison, equal, unequal, less, at-most, greater, at-least}
 use Rattle.meaning.specs.Rules.{Bytes}
-use Rattle.grammar.specs.Tokens.{Sign, sign, <>, Symbol, underscore, not, minus, opening, closing, comma, dot, :-, plus, times, Token, name, variable, string, number, comparison, symbol, stray}
+use Rattle.grammar.specs.Tokens.{Sign, sign, <>, Symbol, underscore, not, minus, opening, closing, comma, dot, :-, plus, times, bar, Token, name, variable, string, number, comparison, symbol, stray}
 
 -- the digits of n, with at most k of them before the last
 unfoldable pub digits : ℕ → ℕ → Bytes
@@ -25,6 +25,7 @@ symbol-bytes dot = 46 ∷ []
 symbol-bytes :- = 58 ∷ 45 ∷ []
 symbol-bytes plus = 43 ∷ []
 symbol-bytes times = 42 ∷ []
+symbol-bytes bar = 124 ∷ []
 
 unfoldable pub comparison-bytes : Comparison → Bytes
 comparison-bytes equal = 61 ∷ []
@@ -58,6 +59,7 @@ is-word-symbol dot = false
 is-word-symbol :- = false
 is-word-symbol plus = false
 is-word-symbol times = false
+is-word-symbol bar = false
 
 -- made of letters, digits and `_`
 unfoldable pub is-word : Token → Bool

@@ -1,2 +1,3 @@
+pub mod HeadCounts
 pub mod Copies
 pub mod Verdicts

@@ -3,7 +3,7 @@ use mathlib.Core.Path.{_≡_}
 use mathlib.Core.Bool.{false}
 use mathlib.Core.Option.{none, some}
 use mathlib.Core.Logic.{_⊎_}
-use mathlib.Core.List.{List, map}
+use mathlib.Core.List.{List, [], map}
 use Prim.Native.Nat.{ℕ, suc, _≤_, _<_}
 use lib.ListN.{length, getD, take, replicate}
 use Rattle.meaning.specs.Rules.{Bytes, Fact, Rule}
@@ -11,32 +11,43 @@ use Rattle.meaning.specs.Verdicts.{accepted, unsatisfied, smaller}
 use Rattle.meaning.specs.Outcomes.{Outcome, out-of-range, verdict}
 use Rattle.meaning.specs.Quick.{broken, overflow, outcome}
 use Rattle.codes.specs.Domains.{codes, code-in-range}
-use Rattle.tables.specs.Rows.{from}
+use Rattle.tables.specs.Layout.{positives-column}
+use Rattle.tables.specs.Rows.{from, rule-column}
+use Rattle.store.specs.Store.{rules-in}
 use Rattle.derived_set.specs.declared.Derived.{Derived}
 use Rattle.derived_set.specs.Members.{holds, WellKept, no-atoms}
 use Rattle.matchings.specs.Tables.{Comparing}
 use Rattle.search.specs.declared.Scan.{Scan}
 use Rattle.derivation.specs.Rounds.{rules-for, all-facts}
 use Rattle.judge.specs.declared.Kind.{Kind}
-use Rattle.judge.specs.declared.Kind.the-variants.{OutOfRange, Unsatisfied, Accepted, Smaller}
+use Rattle.judge.specs.declared.Kind.the-variants.{OutOfRange, Unsatisfied, Accepted, Minimal, Smaller}
 use Rattle.judge.specs.declared.Judgement.{Judgement}
 
 -- every field but the kind is zero
 abbrev pub blank : Kind → Judgement
 blank kind = record { kind = kind; rule = 0; length = 0; positions = replicate 16 0; rounds = 0; set = no-atoms }
 
+-- the judgements of a broken instance, and of a smaller set
+abbrev pub broken-judgement : List ℕ → ℕ → List ℕ → Judgement
+broken-judgement store rule positions = record { kind = Unsatisfied; rule = rule; length = rule-column (rules-in store) rule positives-column; positions = positions; rounds = 0; set = no-atoms }
+
+abbrev pub smaller-judgement : Derived → Judgement
+smaller-judgement set = record { kind = Smaller; rule = 0; length = 0; positions = replicate 16 0; rounds = 0; set = set }
+
 -- beside n atoms and the rounds in the lent places; a rule's number and positions are held from 0, and said from 1
 unfoldable pub said : Kind → Judgement → ℕ → List ℕ → Outcome
 said OutOfRange j n rounds = out-of-range (suc (j .rule))
 said Unsatisfied j n rounds = verdict (unsatisfied (suc (j .rule)) (map suc (take (j .length) (j .positions))))
 said Accepted j n rounds = verdict (accepted n (j .rounds) (take n rounds))
+said Minimal j n rounds = verdict (accepted n 0 [])
 said Smaller j n rounds = verdict (smaller (from (holds (j .set)) n 0))
 
--- only ACCEPTED writes, and only the first n places
+-- only ACCEPTED with rounds writes, and only the first n places
 unfoldable pub Lent : Kind → ℕ → List ℕ → List ℕ → Type 0
 Lent OutOfRange n rounds rounds′ = rounds′ ≡ rounds
 Lent Unsatisfied n rounds rounds′ = rounds′ ≡ rounds
 Lent Accepted n rounds rounds′ = (length rounds′ ≡ length rounds) × ((a : ℕ) → n ≤ a → getD rounds′ a 0 ≡ getD rounds a 0)
+Lent Minimal n rounds rounds′ = rounds′ ≡ rounds
 Lent Smaller n rounds rounds′ = rounds′ ≡ rounds
 
 -- a set that is well kept, and has none but the n atoms
@@ -49,6 +60,7 @@ unfoldable pub SetShown : Kind → Judgement → ℕ → Type 0
 SetShown OutOfRange j n = Unit {0}
 SetShown Unsatisfied j n = Unit {0}
 SetShown Accepted j n = Unit {0}
+SetShown Minimal j n = Unit {0}
 SetShown Smaller j n = SetBelow n (j .set)
 
 pub record Judged (names : List Bytes) (P : List (Rule ℕ)) (I : List (Fact ℕ)) (rounds rounds′ : List ℕ) (j : Judgement) : Type 0 where

@@ -1,4 +1,5 @@
 pub mod Standing
 pub mod Ahead
 pub mod Ends
+pub mod HeadPlaces
 pub mod Arrivals

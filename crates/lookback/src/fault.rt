@@ -15,10 +15,12 @@ use tokens::parts::same_bytes;
 use tokens::place::Place;
 use tokens::sizes::MOST_ARGUMENTS;
 use tokens::sizes::MOST_FACTS;
+use tokens::sizes::MOST_HEADS;
 use tokens::sizes::MOST_LITERALS;
 use tokens::sizes::MOST_NAME;
 use tokens::sizes::MOST_NUMBER;
 use tokens::sizes::MOST_RULES;
+use tokens::sizes::MOST_TESTED_FACTS;
 use tokens::sizes::MOST_TEXT;
 use tokens::sizes::MOST_VARIABLES;
 
@@ -103,6 +105,7 @@ fn program_size(token: &[u8]) {
         return long(token);
     }
     too_many(token);
+    most(b", a head ", MOST_HEADS, b" atoms");
     most(b", a body ", MOST_LITERALS, b" literals");
     most(b", a rule ", MOST_VARIABLES, b" variables");
     most(b", a program ", MOST_RULES, b" rules");
@@ -149,6 +152,14 @@ fn disagree() {
     );
 }
 
+fn many_facts() {
+    most(
+        b"the facts line has more than ",
+        MOST_TESTED_FACTS,
+        b" facts, the most that may stand beside a rule with several heads",
+    );
+}
+
 fn short() {
     say(b"a lent buffer is too short");
 }
@@ -179,6 +190,7 @@ fn output_words(output: &[u8], place: Place, refusal: u8) {
         7 => opposite(shown),
         9 => short(),
         10 => disagree(),
+        12 => many_facts(),
         _ => {}
     }
 }

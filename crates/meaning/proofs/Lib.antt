@@ -10,6 +10,9 @@ pub mod First
 pub mod Graph
 pub mod Reduct
 pub mod Rounds
+pub mod Numbers
+pub mod Search
+pub mod Subsets
 pub mod Settled
 pub mod Values
 pub mod Ordered

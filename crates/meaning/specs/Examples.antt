@@ -1,8 +1,7 @@
--- Document 01's small examples T1 to T12, as rules and facts; and document 02's sites that are numbers.
+-- Document 01's small examples T1 to T12, as rules and facts; and document 02's sites that are numbers, and either site that may have issued.
 use Prim.Native.Nat.{ℕ}
 use Prim.Native.String.{String}
-use mathlib.Core.Bool.{false}
-use mathlib.Core.Option.{none, some}
+use mathlib.Core.Bool.{true, false}
 use mathlib.Core.List.{List, [], _∷_}
 use lib.IntN.{pos}
 use Rattle.meaning.specs.Domain.{equal, unequal, less, plus}
@@ -24,10 +23,10 @@ abbrev atom : {X : Type 0} → String → List X → Atom X
 atom p xs = record { negative = false; name = ascii p; arguments = xs }
 
 abbrev rule : Atom (Term Value) → List (Literal Value) → Rule Value
-rule h b = record { head = some h; body = b }
+rule h b = record { heads = h ∷ []; body = b }
 
 abbrev constraint : List (Literal Value) → Rule Value
-constraint b = record { head = none; body = b }
+constraint b = record { heads = []; body = b }
 
 abbrev word : String → Value
 word s = name (ascii s)
@@ -114,4 +113,38 @@ ordered =
     example away (at-seven ∷ atom "away" (word "u1" ∷ []) ∷ []) (verdict (accepted 2 2 (1 ∷ 2 ∷ [])))
     ∷ example away (at-seven ∷ []) (verdict (unsatisfied 2 (1 ∷ [])))
     ∷ example between (q (whole 7) ∷ q (word "b") ∷ q (text "b") ∷ q (text "b c") ∷ atom "p" (word "b" ∷ []) ∷ atom "p" (text "b" ∷ []) ∷ []) (verdict (accepted 6 2 (1 ∷ 1 ∷ 1 ∷ 1 ∷ 2 ∷ 2 ∷ [])))
+    ∷ []
+
+-- ---- several heads
+
+abbrev c : {X : Type 0} → Atom X
+c = atom "c" []
+
+abbrev d : {X : Type 0} → Atom X
+d = atom "d" []
+
+-- h|k.
+abbrev one-of : Atom (Term Value) → Atom (Term Value) → Rule Value
+one-of h k = record { heads = h ∷ k ∷ []; body = [] }
+
+-- a|b.a:-b.b:-a.
+abbrev both : List (Rule Value)
+both = one-of a b ∷ rule a (positive b ∷ []) ∷ rule b (positive a ∷ []) ∷ []
+
+-- a|b.c:-a.d:-a.
+abbrev three-or-one : List (Rule Value)
+three-or-one = one-of a b ∷ rule c (positive a ∷ []) ∷ rule d (positive a ∷ []) ∷ []
+
+abbrev pub disjunctions : List Example
+disjunctions =
+    example (one-of a b ∷ []) (a ∷ []) (verdict (accepted 1 0 []))
+    ∷ example (one-of a b ∷ []) [] (verdict (unsatisfied 1 []))
+    ∷ example (one-of a b ∷ []) (a ∷ b ∷ []) (verdict (smaller (true ∷ false ∷ [])))
+    -- the order of the facts decides: b is atom 1
+    ∷ example (one-of a b ∷ []) (b ∷ a ∷ []) (verdict (smaller (true ∷ false ∷ [])))
+    ∷ example both (a ∷ b ∷ []) (verdict (accepted 2 0 []))
+    -- {a, c, d} has the number 7, {b} the number 8: neither lies inside the other
+    ∷ example three-or-one (a ∷ c ∷ d ∷ b ∷ []) (verdict (smaller (true ∷ true ∷ true ∷ false ∷ [])))
+    -- two heads as written, though they are one
+    ∷ example (one-of a a ∷ []) (a ∷ []) (verdict (accepted 1 0 []))
     ∷ []

@@ -13,6 +13,7 @@ use Rattle.meaning.specs.Matcher.{complete}
 use Rattle.meaning.specs.Quick.{literal-overflows}
 use Rattle.meaning.proofs.Safety.{scan-induction}
 use Rattle.codes.specs.Domains.{codes, code-in-range}
+use Rattle.tables.specs.Layout.{first-literal-column, literals-column, has-operation-column}
 use Rattle.tables.specs.Rows.{from, rule-column, literal-at, equation-at, equation-places, rule-at}
 use Rattle.tables.specs.WellFormed.{BodyRow, RuleRow}
 use Rattle.derived_set.specs.Members.{bit}
@@ -32,20 +33,20 @@ scan-fresh ls = scan-induction ls (λ B qs. Fresh B qs) (λ B. tt) (λ B q qs g 
 pub binding : (store : List ℕ) (r : ℕ) → RuleRow (rules-in store) (literals-in store) r → Equations store r
 binding store r row = record { few = row .few-equations; row = row .equation }
 
-pub body-rows : (store : List ℕ) (r : ℕ) → RuleRow (rules-in store) (literals-in store) r → (first size : ℕ) → first ≡ rule-column (rules-in store) r 1 → size ≡ rule-column (rules-in store) r 2 → (l : ℕ) → first ≤ l → l < first + size → BodyRow (literals-in store) l
+pub body-rows : (store : List ℕ) (r : ℕ) → RuleRow (rules-in store) (literals-in store) r → (first size : ℕ) → first ≡ rule-column (rules-in store) r first-literal-column → size ≡ rule-column (rules-in store) r literals-column → (l : ℕ) → first ≤ l → l < first + size → BodyRow (literals-in store) l
 body-rows store r row first size e f l p q = row .body l (rw e at p) (rw (e, f) at q)
 
-pub body-end : (store : List ℕ) (r : ℕ) → length store ≡ store-size → RuleRow (rules-in store) (literals-in store) r → (first size : ℕ) → first ≡ rule-column (rules-in store) r 1 → size ≡ rule-column (rules-in store) r 2 → first + size ≤ literal-room
+pub body-end : (store : List ℕ) (r : ℕ) → length store ≡ store-size → RuleRow (rules-in store) (literals-in store) r → (first size : ℕ) → first ≡ rule-column (rules-in store) r first-literal-column → size ≡ rule-column (rules-in store) r literals-column → first + size ≤ literal-room
 body-end store r long row first size e f = omega (arith, row .within, literals-long store long, e, f)
 
 module _ (store : List ℕ) (r bound : ℕ) (values : List ℕ) (row : RuleRow (rules-in store) (literals-in store) r) where
   abbrev rule : Rule ℕ
   rule = rule-at (rules-in store) (literals-in store) r
 
-  pub no-operation-leaves : (n : ℕ) → n ≡ rule-column (rules-in store) r 3 → n ≡ 0 → LeavesRange store r bound values false values
+  pub no-operation-leaves : (n : ℕ) → n ≡ rule-column (rules-in store) r has-operation-column → n ≡ 0 → LeavesRange store r bound values false values
   no-operation-leaves n e z = record { kept = kept-all bound values; is = λ p names. sym (none-leaves (codes names) code-in-range (complete (codes names) (equations rule) (values-in bound values)) (rule .body) (row .no-operation (sym e ∙ z))) }
 
-  pub operations-leave : (more : ℕ) (after : List ℕ) → Completes (map (equation-at (literals-in store)) (equation-places (rules-in store) r)) bound values more after → (first size : ℕ) → first ≡ rule-column (rules-in store) r 1 → size ≡ rule-column (rules-in store) r 2 → (b : Bool)
+  pub operations-leave : (more : ℕ) (after : List ℕ) → Completes (map (equation-at (literals-in store)) (equation-places (rules-in store) r)) bound values more after → (first size : ℕ) → first ≡ rule-column (rules-in store) r first-literal-column → size ≡ rule-column (rules-in store) r literals-column → (b : Bool)
       → ((names : List Bytes) → b ≡ any (literal-overflows (codes names) code-in-range (values-in more after)) (from (literal-at (literals-in store)) (first + size - first) first))
       → LeavesRange store r bound values b after
   unfolding rule-at equations

@@ -10,12 +10,12 @@ use lib.ListN.{length, take, drop}
 use lib.Seq.{take-append-seam}
 use Rattle.meaning.specs.Rules.{Bytes}
 use Rattle.meaning.specs.Safety.{bound}
-use Rattle.grammar.specs.Trees.{empty, _then_, Atom, Rule, fact, clause, Program}
+use Rattle.grammar.specs.Trees.{empty, _then_, Heads, Rule, fact, clause, Program}
 use Rattle.grammar.specs.Spelling.{inside, with-commas, spell-nth-literal}
 use Rattle.grammar.specs.Variables.{met}
 use Rattle.grammar.specs.Abstraction.{rule-for, rules-for}
 use Rattle.grammar.specs.PlainForm.{each, plain-literal, plain-head, plain-rule, plain-form}
-use Rattle.grammar.proofs.Plainer.{plainer-atom, plainer-listed, plainer-literal}
+use Rattle.grammar.proofs.Plainer.{plainer-listed, plainer-literal, plainer-heads}
 use Rattle.grammar.proofs.PlainTheorems.{plain-same}
 use Rattle.stages.specs.Stage.{on}
 use Rattle.program.specs.Stage.{ProgramStage}
@@ -30,14 +30,14 @@ use Rattle.plain.specs.Answer.{WritesProgram, Writes, refuses, takes}
 
 -- ---- a rule in plain form has the same variables, and means the same
 
-same-head : (h : Option (Atom false)) → head-variables (plain-head h) ≡ head-variables h
+same-head : (h : Option (Heads false)) → head-variables (plain-head h) ≡ head-variables h
 unfolding head-variables plain-head
 same-head none = refl
-same-head (some x) = plainer-atom inside x .same []
+same-head (some hs) = plainer-heads inside hs .same []
 
 same-variables : (r : Rule false) → rule-variables (plain-rule r) ≡ rule-variables r
 unfolding rule-variables head-variables plain-rule each
-same-variables (fact x) = plainer-atom inside x .same []
+same-variables (fact hs) = plainer-heads inside hs .same []
 same-variables (clause u h ls l) = ap (λ vs. met vs (with-commas spell-nth-literal (each plain-literal (ls then l)))) (same-head h) ∙ plainer-listed {ground = false} spell-nth-literal plain-literal (λ k x. plainer-literal _ x) (ls then l) .same (head-variables h)
 
 same-rule : (r : Rule false) → rule-for (plain-rule r) ≡ rule-for r

@@ -21,7 +21,7 @@ use Rattle.tokens.specs.Strings.{quote, Quotable, quoted}
 use Rattle.tokens.proofs.Strings.{string-kind, quotable-closing, between-quoted, string-quotable}
 use Rattle.meaning.specs.Domain.{equal, unequal, less, at-most, greater, at-least}
 use Rattle.meaning.specs.Rules.{Bytes}
-use Rattle.grammar.specs.Tokens.{sign, <>, underscore, not, minus, opening, closing, comma, dot, :-, plus, times, Token, name, variable, string, number, comparison, symbol, stray}
+use Rattle.grammar.specs.Tokens.{sign, <>, underscore, not, minus, opening, closing, comma, dot, :-, plus, times, bar, Token, name, variable, string, number, comparison, symbol, stray}
 use Rattle.grammar.specs.Writing.{symbol-bytes, comparison-bytes, sign-bytes, token-bytes, is-word-symbol, is-word, is-comparison, run-together, blank, written}
 use Rattle.grammar.proofs.Plainer.{All}
 use Rattle.plainform.proofs.Digits.{number-spelled}
@@ -85,6 +85,7 @@ ends (symbol dot) s c h = refl
 ends (symbol :-) s c h = refl
 ends (symbol plus) s c h = refl
 ends (symbol times) s c h = refl
+ends (symbol bar) s c h = refl
 ends (stray b) s c h = absurd s
 
 -- ---- the first byte of what is written behind a token
@@ -121,6 +122,7 @@ mark-first (symbol dot) s h r = refl
 mark-first (symbol :-) s h r = refl
 mark-first (symbol plus) s h r = refl
 mark-first (symbol times) s h r = refl
+mark-first (symbol bar) s h r = refl
 mark-first (stray b) s h r = absurd s
 
 -- a letter or a digit is no mark
@@ -151,6 +153,7 @@ plain-first (symbol dot) s h r = (refl, refl)
 plain-first (symbol :-) s h r = (refl, refl)
 plain-first (symbol plus) s h r = (refl, refl)
 plain-first (symbol times) s h r = (refl, refl)
+plain-first (symbol bar) s h r = (refl, refl)
 plain-first (stray b) s h r = absurd s
 
 -- two tokens that do not run together

@@ -1,12 +1,12 @@
 -- Tokens that their bytes spell: the bytes of a token are a token of its kind, and are read as that token.
 use mathlib.Core.Path.{_≡_, refl, sym as inv, ap}
 use Rattle.tokens.specs.declared.kind.Kind.{Kind}
-use Rattle.tokens.specs.declared.kind.Kind.the-variants.{Name, Not, Variable, Anonymous, Number, Open, Close, Comma, Dot, If, Minus, Plus, Times, Equal, Unequal, AlsoUnequal, Less, AtMost, Greater, AtLeast, End, Stray, String}
+use Rattle.tokens.specs.declared.kind.Kind.the-variants.{Name, Not, Variable, Anonymous, Number, Open, Close, Comma, Dot, If, Minus, Plus, Times, Equal, Unequal, AlsoUnequal, Less, AtMost, Greater, AtLeast, End, Stray, String, Bar}
 use Rattle.tokens.specs.Spells.{Spells}
 use Rattle.tokens.proofs.Strings.{between-quoted, string-parts}
 use Rattle.meaning.specs.Domain.{Comparison, equal, unequal, less, at-most, greater, at-least}
 use Rattle.meaning.specs.Rules.{Bytes}
-use Rattle.grammar.specs.Tokens.{Sign, sign, <>, Symbol, underscore, not, minus, opening, closing, comma, dot, :-, plus, times, Token, name, variable, string, number, comparison, symbol, stray}
+use Rattle.grammar.specs.Tokens.{Sign, sign, <>, Symbol, underscore, not, minus, opening, closing, comma, dot, :-, plus, times, bar, Token, name, variable, string, number, comparison, symbol, stray}
 use Rattle.grammar.specs.Writing.{symbol-bytes, comparison-bytes, sign-bytes, token-bytes}
 use Rattle.syntax.specs.Text.{token-of}
 use Rattle.plainform.proofs.Digits.{decimal-digits, number-written}
@@ -22,6 +22,7 @@ symbol-kind dot = Dot
 symbol-kind :- = If
 symbol-kind plus = Plus
 symbol-kind times = Times
+symbol-kind bar = Bar
 
 unfoldable pub comparison-kind : Comparison → Kind
 comparison-kind equal = Equal
@@ -73,6 +74,7 @@ token-again (symbol dot) h = refl
 token-again (symbol :-) h = refl
 token-again (symbol plus) h = refl
 token-again (symbol times) h = refl
+token-again (symbol bar) h = refl
 token-again (stray b) h = absurd h
 
 -- and the token that bytes spell has those bytes, and their kind
@@ -101,6 +103,7 @@ token-says AtLeast b s = (inv s, refl)
 token-says End b s = absurd s
 token-says Stray b s = absurd s
 token-says String b s = (inv (string-parts b s), refl)
+token-says Bar b s = (inv s, refl)
 
 pub says-proper : (kind : Kind) (b : Bytes) → Spells kind b → Proper (token-of kind b)
 says-proper kind b s = let q = token-says kind b s in rw (q .1, q .0) s

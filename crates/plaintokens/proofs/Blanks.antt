@@ -4,7 +4,7 @@ use mathlib.Core.Bool.{Bool, true, false, _&&_, _||_, cond}
 use mathlib.Core.List.{List, [], _∷_, _++_, append-assoc, append-nil}
 use Rattle.meaning.specs.Domain.{equal, unequal, less, at-most, greater, at-least}
 use Rattle.meaning.specs.Rules.{Bytes}
-use Rattle.grammar.specs.Tokens.{sign, <>, underscore, not, minus, opening, closing, comma, dot, :-, plus, times, Token, name, variable, string, number, comparison, symbol, stray}
+use Rattle.grammar.specs.Tokens.{sign, <>, underscore, not, minus, opening, closing, comma, dot, :-, plus, times, bar, Token, name, variable, string, number, comparison, symbol, stray}
 use Rattle.grammar.specs.Moves.{token-number, symbol-number, sign-number, comparison-number}
 use Rattle.grammar.specs.Writing.{token-bytes, is-word-symbol, is-word, is-comparison, run-together, blank, written}
 use Rattle.plaintokens.specs.Neighbours.{word, compares, runs-together}
@@ -39,6 +39,7 @@ sorted (symbol dot) = record { is-a-word = refl; is-compared = refl; not-both = 
 sorted (symbol :-) = record { is-a-word = refl; is-compared = refl; not-both = refl }
 sorted (symbol plus) = record { is-a-word = refl; is-compared = refl; not-both = refl }
 sorted (symbol times) = record { is-a-word = refl; is-compared = refl; not-both = refl }
+sorted (symbol bar) = record { is-a-word = refl; is-compared = refl; not-both = refl }
 sorted (stray b) = record { is-a-word = refl; is-compared = refl; not-both = refl }
 
 either-way : (w v c d : Bool) → w && c ≡ false → (w && v || c && d) ≡ cond w v (c && d)

@@ -1,12 +1,12 @@
--- The rewriting on document 01's cases: a minus goes where it belongs to the number 0, and stays where it is an operation.
+-- The rewriting on the documents' cases: a minus goes where it belongs to the number 0, and stays where it is an operation.
 use mathlib.Core.Path.{_≡_, refl}
 use mathlib.Core.List.{List, [], _∷_}
 use Rattle.meaning.specs.Domain.{equal, unequal}
-use Rattle.grammar.specs.Tokens.{sign, <>, minus, opening, closing, dot, :-, Token, name, variable, string, number, comparison, symbol}
+use Rattle.grammar.specs.Tokens.{sign, <>, minus, opening, closing, dot, :-, bar, Token, name, variable, string, number, comparison, symbol}
 use Rattle.grammar.specs.PlainForm.{plain-sign}
 use Rattle.grammar.specs.Moves.{token-number, symbol-number, sign-number, comparison-number}
 use Rattle.grammar.specs.Writing.{digits, token-bytes, symbol-bytes, sign-bytes, comparison-bytes}
-use Rattle.plaintokens.specs.PlainTokens.{plain-token, first-kind, first-byte, plain-unless, plain-behind, plain-tokens}
+use Rattle.plaintokens.specs.PlainTokens.{plain-token, first-kind, first-byte, plain-unless, plain-behind, plain-tokens, written-behind}
 
 abbrev X : List Token → List Token
 X ts = variable (88 ∷ []) ∷ comparison (sign equal) ∷ ts
@@ -41,3 +41,12 @@ other-number = refl
 parentheses : plain-tokens (symbol minus ∷ name (112 ∷ []) ∷ symbol opening ∷ symbol closing ∷ symbol :- ∷ variable (88 ∷ []) ∷ comparison <> ∷ name (97 ∷ []) ∷ symbol dot ∷ []) ≡ symbol minus ∷ name (112 ∷ []) ∷ symbol :- ∷ variable (88 ∷ []) ∷ comparison (sign unequal) ∷ name (97 ∷ []) ∷ symbol dot ∷ []
 unfolding opened
 parentheses = refl
+
+-- a|-b():-c. is a|-b:-c., and no blank stands in it
+heads : plain-tokens (name (97 ∷ []) ∷ symbol bar ∷ symbol minus ∷ name (98 ∷ []) ∷ symbol opening ∷ symbol closing ∷ symbol :- ∷ name (99 ∷ []) ∷ symbol dot ∷ []) ≡ name (97 ∷ []) ∷ symbol bar ∷ symbol minus ∷ name (98 ∷ []) ∷ symbol :- ∷ name (99 ∷ []) ∷ symbol dot ∷ []
+unfolding opened
+heads = refl
+
+no-blank : written-behind 8 (name (97 ∷ []) ∷ symbol bar ∷ name (98 ∷ []) ∷ symbol :- ∷ name (99 ∷ []) ∷ symbol dot ∷ []) ≡ 97 ∷ 124 ∷ 98 ∷ 58 ∷ 45 ∷ 99 ∷ 46 ∷ []
+unfolding opened written-behind
+no-blank = refl

@@ -13,13 +13,13 @@ use Rattle.reading.specs.Reading.{Marked, _at_, tokens}
 use Rattle.reading.proofs.Lists.{tokens-append}
 use Rattle.meaning.specs.Domain.{Operation, equal, unequal, less, at-most, greater, at-least}
 use Rattle.meaning.specs.Rules.{Bytes}
-use Rattle.grammar.specs.Tokens.{Sign, sign, <>, Symbol, not, minus, opening, closing, comma, dot, :-, Token, comparison, symbol}
-use Rattle.grammar.specs.Trees.{Sequence, empty, _then_, count, Term, name, variable, string, number, negative, anonymous, Arguments, bare, parentheses, arguments, Atom, atom, Literal, positive, negated, compared, computed, Rule, fact, clause, Program}
-use Rattle.grammar.specs.Spelling.{Mark, inside, Spelling, mere, with-commas, spell-term, spell-argument, spell-arguments, spell-signed, spell-atom, spell-operation, spell-compared, spell-literal, spell-nth-literal, spell-head, spell-rule, spell}
-use Rattle.grammar.specs.PlainForm.{each, plain-term, plain-arguments, plain-atom, plain-sign, plain-literal, plain-head, plain-rule, plain-form}
+use Rattle.grammar.specs.Tokens.{Sign, sign, <>, Symbol, not, minus, opening, closing, comma, dot, :-, bar, Token, comparison, symbol}
+use Rattle.grammar.specs.Trees.{Sequence, empty, _then_, count, Term, name, variable, string, number, negative, anonymous, Arguments, bare, parentheses, arguments, Atom, atom, Literal, positive, negated, compared, computed, Heads, head, also, Rule, fact, clause, Program}
+use Rattle.grammar.specs.Spelling.{Mark, inside, Spelling, mere, with-commas, spell-term, spell-argument, spell-arguments, spell-signed, spell-atom, spell-operation, spell-compared, spell-literal, spell-nth-literal, spell-heads, spell-head, spell-rule, spell}
+use Rattle.grammar.specs.PlainForm.{each, plain-term, plain-arguments, plain-atom, plain-sign, plain-literal, plain-heads, plain-head, plain-rule, plain-form}
 use Rattle.grammar.specs.Moves.{token-number, symbol-number, sign-number, comparison-number}
 use Rattle.grammar.specs.Writing.{digits, token-bytes}
-use Rattle.grammar.proofs.Plainer.{count-each}
+use Rattle.grammar.proofs.Plainer.{count-each, count-heads}
 use Rattle.plainform.proofs.Digits.{number-spelled, decimal-digits}
 use Rattle.plaintokens.specs.Neighbours.{ends-term, left-out}
 use Rattle.plaintokens.specs.PlainTokens.{plain-token, first-kind, first-byte, plain-unless, plain-behind, plain-tokens}
@@ -177,14 +177,19 @@ module _ {ground : Bool} where
 
   -- ---- rules and programs
 
-  a-head : (m : Mark) (h : Option (Atom ground)) → Rewrites Any Fresh (spell-head m h) (spell-head m (plain-head h))
+  heads : (m : Mark) (hs : Heads ground) → Rewrites Any Any (spell-heads m hs) (spell-heads m (plain-heads hs))
+  unfolding spell-heads plain-heads symbol-number
+  heads m (head x) = an-atom m x
+  heads m (also u hs x) = rw (count-heads hs) (join (heads m hs) (join {l = mere bar ∷ []} {l′ = mere bar ∷ []} (mark bar inside refl refl refl tt) (an-atom _ x)))
+
+  a-head : (m : Mark) (h : Option (Heads ground)) → Rewrites Any Fresh (spell-head m h) (spell-head m (plain-head h))
   unfolding spell-head plain-head symbol-number
   a-head m none = mark :- m refl refl refl refl
-  a-head m (some x) = join (an-atom m x) (mark :- inside refl refl refl refl)
+  a-head m (some hs) = join (heads m hs) (mark :- inside refl refl refl refl)
 
   a-rule : (m : Mark) (r : Rule ground) → Rewrites Any Any (spell-rule m r) (spell-rule m (plain-rule r))
   unfolding spell-rule plain-rule symbol-number
-  a-rule m (fact x) = join (an-atom m x) (mark dot inside refl refl refl tt)
+  a-rule m (fact hs) = join (heads m hs) (mark dot inside refl refl refl tt)
   a-rule m (clause u h ls l) = rw (count-each plain-literal ls) (join (join (join (a-head m h) (listed spell-nth-literal plain-literal (λ k x. a-literal _ x) ls)) (a-literal _ l)) (mark dot inside refl refl refl tt))
 
   a-program : (c : Program ground) → Rewrites Any Any (spell c) (spell (plain-form c))

@@ -86,14 +86,13 @@ module _ (program output : Bytes) (names₀ rules₀ literals₀ : List ℕ) (as
 
   module _ (p : Program false) (at : Place) (n : ℕ) (names rules literals : List ℕ) (g : Filled program output names₀ rules₀ literals₀ p at n names rules literals) where
     -- room for the rule with a number up to this one, if it is not one too many
-    pub filled-puttable : (variables : List ℕ) → variables-size ≤ length variables → (k : ℕ) → k ≤ n → n ≤ 256 → Puttable program output names variables rules literals (record { at = at; number = k; over = leb 256 n })
-    filled-puttable variables wide k low few =
+    pub filled-puttable : (variables : List ℕ) → variables-size ≤ length variables → (k : ℕ) → k ≤ n → Puttable program output names variables rules literals (record { at = at; number = k; over = leb 256 n })
+    filled-puttable variables wide k low =
         record {
           ready =
               record {
                 ready = record { ready = record { source = at-start program output; short = fits; stands = g .placed; room = room-after program output (g .grows) (length program - at .start) (asked .room fits) (let i = g .placed .inside in omega arith); few = omega arith; long = wide }; in-program = refl };
                 none-met = refl;
-                small = omega arith;
                 long = λ o. (let m = leb-false 256 n o in let a = g .literals-kept .long in let b = asked .literals-long in omega arith);
               };
           rules-long = λ o. (let m = leb-false 256 n o in let a = g .rules-kept .long in let b = asked .rules-long in omega arith);

@@ -123,7 +123,7 @@ module _ (text output : Bytes) (names₀ rules₀ literals₀ : List ℕ) (fits 
     start k = record { at = at; number = k; over = leb 256 n }
 
     pub going-puttable : (k : ℕ) → k ≤ n → Puttable text output names variables rules literals (start k)
-    going-puttable k low = filled-puttable text output names₀ rules₀ literals₀ asked fits (g .trees) at n names rules literals (g .filled) variables (let l = g .variables-long in omega arith) k low (g .few)
+    going-puttable k low = filled-puttable text output names₀ rules₀ literals₀ asked fits (g .trees) at n names rules literals (g .filled) variables (let l = g .variables-long in omega arith) k low
 
     -- a rule has been put in the rows of the number k
     module _ (k : ℕ) (r : RulePut) (names′ rules′ literals′ : List ℕ) (put : PutsRule text output names rules literals (start k) r names′ rules′ literals′) where

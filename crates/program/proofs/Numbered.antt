@@ -15,23 +15,23 @@ use Rattle.meaning.specs.Safety.{term-bound, side-bound, atom-bound, literal-bo
 use Rattle.meaning.specs.Domain.{Operation}
 use Rattle.meaning.proofs.Booleans.{and-both}
 use Rattle.grammar.specs.Tokens.{Sign, closing}
-use Rattle.grammar.specs.Trees.{Sequence, empty, _then_, count, Term, name, variable, string, number, negative, anonymous, Arguments, bare, parentheses, arguments, Atom, atom, Literal, positive, negated, compared, computed, Rule, fact, clause}
-use Rattle.grammar.specs.Spelling.{Mark, inside, mere, with-commas, spell-term, spell-argument, spell-arguments, spell-signed, spell-atom, spell-compared, spell-literal, spell-nth-literal}
+use Rattle.grammar.specs.Trees.{Sequence, empty, _then_, count, Term, name, variable, string, number, negative, anonymous, Arguments, bare, parentheses, arguments, Atom, atom, Literal, positive, negated, compared, computed, Free, Heads, head, also, Rule, fact, clause}
+use Rattle.grammar.specs.Spelling.{Mark, inside, mere, with-commas, spell-term, spell-argument, spell-arguments, spell-signed, spell-atom, spell-compared, spell-literal, spell-nth-literal, spell-heads}
 use Rattle.grammar.specs.Variables.{Variables, number-of, with-variable, meet-symbol, meet, met}
-use Rattle.grammar.specs.Abstraction.{term-for, terms-for, arguments-for, atom-for, literal-for, literals-for, rule-for}
-use Rattle.grammar.proofs.Variables.{met-append, met-literal, met-signed, number-at-most}
+use Rattle.grammar.specs.Abstraction.{term-for, terms-for, arguments-for, atom-for, literal-for, literals-for, heads-for, rule-for}
+use Rattle.grammar.proofs.Variables.{met-append, met-atom, met-literal, met-signed, number-at-most}
 use Rattle.syntax.proofs.Lists.{met-then}
 use Rattle.syntax.proofs.Variables.{length-more}
 use Rattle.syntax.proofs.Signs.{no-variable}
 
--- the variables that are met in the head
-unfoldable pub head-variables : {ground : Bool} → Option (Atom ground) → Variables
+-- the variables that are met in the heads
+unfoldable pub head-variables : {ground : Bool} → Option (Heads ground) → Variables
 head-variables none = []
-head-variables (some x) = met [] (spell-atom inside x)
+head-variables (some hs) = met [] (spell-heads inside hs)
 
 -- the variables of a rule, in the order of their numbers
 unfoldable pub rule-variables : {ground : Bool} → Rule ground → Variables
-rule-variables (fact x) = head-variables (some x)
+rule-variables (fact hs) = head-variables (some hs)
 rule-variables (clause u h ls l) = met (head-variables h) (with-commas spell-nth-literal (ls then l))
 
 -- the numbers below n
@@ -158,9 +158,21 @@ module _ {ground : Bool} where
       let k = rw (nth vs ls l) at h in
       every-on (literal-bound (below n)) (literals-for vs ls) (literal-for (met vs (with-commas spell-nth-literal ls)) l) (literals-below vs ls n (omega (arith, grows-literal (met vs (with-commas spell-nth-literal ls)) l))) (literal-below (met vs (with-commas spell-nth-literal ls)) l n k)
 
-  -- in the head and in the body
-  pub rule-below : (x : Rule ground) (n : ℕ) → length (rule-variables x) ≤ n → (head-bound (below n) (rule-for x .head) ≡ true) × (every (literal-bound (below n)) (rule-for x .body) ≡ true)
+  met-also : (u : Free ground) (hs : Heads ground) (x : Atom ground) → met [] (spell-heads inside (also u hs x)) ≡ met (met [] (spell-heads inside hs)) (spell-atom inside x)
+  unfolding spell-heads met meet meet-symbol
+  met-also u hs x = met-append [] (spell-heads inside hs) _ ∙ met-atom _ inside (met [] (spell-heads inside hs)) x
+
+  heads-below : (hs : Heads ground) (n : ℕ) → length (met [] (spell-heads inside hs)) ≤ n → head-bound (below n) (heads-for hs) ≡ true
+  unfolding head-bound heads-for spell-heads every
+  heads-below (head x) n h = rw (atom-below [] inside x n h)
+  heads-below (also u hs x) n h =
+      let vs = met [] (spell-heads inside hs) in
+      let k = rw (met-also u hs x) at h in
+      every-on (atom-bound (below n)) (heads-for hs) (atom-for vs x) (heads-below hs n (omega (arith, grows-atom vs inside x))) (atom-below vs inside x n k)
+
+  -- in the heads and in the body
+  pub rule-below : (x : Rule ground) (n : ℕ) → length (rule-variables x) ≤ n → (head-bound (below n) (rule-for x .heads) ≡ true) × (every (literal-bound (below n)) (rule-for x .body) ≡ true)
   unfolding rule-variables head-variables rule-for head-bound every
-  rule-below (fact x) n h = (atom-below [] inside x n h, refl)
+  rule-below (fact hs) n h = (heads-below hs n h, refl)
   rule-below (clause u none ls l) n h = (refl, literals-below [] (ls then l) n h)
-  rule-below (clause u (some x) ls l) n h = (atom-below [] inside x n (omega (arith, grows-literals (met [] (spell-atom inside x)) (ls then l))), literals-below (met [] (spell-atom inside x)) (ls then l) n h)
+  rule-below (clause u (some hs) ls l) n h = (heads-below hs n (omega (arith, grows-literals (met [] (spell-heads inside hs)) (ls then l))), literals-below (met [] (spell-heads inside hs)) (ls then l) n h)

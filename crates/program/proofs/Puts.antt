@@ -1,21 +1,17 @@
 -- What the function that puts a rule into the tables returns, by the tests that led there.
 use mathlib.Core.Path.{_≡_, refl, sym, _∙_}
 use mathlib.Core.Bool.{true, false, true≢false, false≢true}
-use mathlib.Core.Option.{Option}
 use mathlib.Core.List.{List}
-use Prim.Native.Nat.{ℕ, _+_, _*_, _≤_}
+use Prim.Native.Nat.{ℕ, _≤_}
 use native.Mathlib.Omega.{arith}
 use lib.ListN.{length}
 use Rattle.tokens.specs.Places.{places-in}
 use Rattle.tokens.proofs.PlaceTables.{places-length}
-use Rattle.meaning.specs.Rules.{Bytes, Term, Atom}
-use Rattle.meaning.specs.Values.{Value}
+use Rattle.meaning.specs.Rules.{Bytes}
 use Rattle.grammar.specs.Trees.{Rule as Tree}
 use Rattle.grammar.specs.Abstraction.{rule-for}
 use Rattle.names.specs.Table.{names-of}
-use Rattle.grammar.specs.Sizes.{most-literals}
-use Rattle.tables.specs.Layout.{rule-rows}
-use Rattle.tables.specs.Coded.{HeadCoded}
+use Rattle.grammar.specs.Sizes.{most-heads, most-literals}
 use Rattle.clauses.specs.declared.clause.RuleRead.{RuleRead}
 use Rattle.clauses.specs.Clauses.{RuleStands, FillsRule}
 use Rattle.rulesafety.specs.declared.bound.Bound.{Bound}
@@ -30,10 +26,11 @@ use Rattle.program.specs.declared.put.RulePut.{RulePut}
 use Rattle.program.specs.Puts.{cursor-at, Puttable, Owns, PutsRule, refusedPut}
 
 -- the rows that a stored row names are the rule's own
-own-rows : {names : List Bytes} {m : Option (Atom (Term Value))} {rules rules′ literals : List ℕ} {number head count : ℕ} {b : Bound} → HeadCoded names literals (number * rule-rows) head m → count ≤ most-literals → RowStored rules literals number head (number * rule-rows + 1) count b rules′ → Owns rules′ number
-own-rows coded few stored =
+own-rows : {rules rules′ literals : List ℕ} {number heads count : ℕ} {b : Bound} → heads ≤ most-heads → count ≤ most-literals → RowStored rules literals number heads count b rules′ → Owns rules′ number
+own-rows few-heads few stored =
     record {
-      head = λ h. stored .head-row ∙ coded .where-it-is (λ z. h (stored .head-row ∙ z));
+      head = stored .head-row;
+      few-heads = let e = stored .heads-size in omega arith;
       first = stored .first-row;
       short = let e = stored .size in omega arith;
       few-equations = stored .few-equations;
@@ -64,10 +61,10 @@ module _ (program output : Bytes) (names variables rules literals : List ℕ) (s
         go (FillsRule.stopped c q) = absurd (omega arith)
 
     module _ (t : w .ended ≡ false) where
-      pub row-storable : Storable rules literals′ (s .number) (s .number * rule-rows + 1) (w .count)
+      pub row-storable : Storable rules literals′ (s .number) (w .count)
       row-storable = go g
         where
-          go : FillsRule program output names variables literals (cursor-at s) (s .number) w names′ variables′ literals′ → Storable rules literals′ (s .number) (s .number * rule-rows + 1) (w .count)
+          go : FillsRule program output names variables literals (cursor-at s) (s .number) w names′ variables′ literals′ → Storable rules literals′ (s .number) (w .count)
           go (FillsRule.read c e o x h q) =
               let long = asked .ready .long o in
               let same = h .kept .long in
@@ -88,15 +85,12 @@ module _ (program output : Bytes) (names variables rules literals : List ℕ) (s
           go (FillsRule.ended c e n l q) = absurd (true≢false (sym e ∙ t))
           go (FillsRule.stopped c q) = absurd (omega arith)
 
-      module _ (b : Bound) (rules′ : List ℕ) (stored : RowStored rules literals′ (s .number) (w .head) (s .number * rule-rows + 1) (w .count) b rules′) (u : Unbound) (unbound : FirstUnbound (bitsOf b) (places-in variables′ (w .met)) u) where
+      module _ (b : Bound) (rules′ : List ℕ) (stored : RowStored rules literals′ (s .number) (w .heads) (w .count) b rules′) (u : Unbound) (unbound : FirstUnbound (bitsOf b) (places-in variables′ (w .met)) u) where
         abbrev answer : RulePut
         answer = record { progress = w .progress; ended = false; unbound = u }
 
-        its-rows : (x : Tree false) → s .over ≡ false → RuleStands program output names variables literals (cursor-at s) (s .number) x w names′ variables′ literals′ → RuleStored (names-of program output names′) (rule-for x) rules literals′ (s .number) (s .number * rule-rows) (w .head) (s .number * rule-rows + 1) (w .count) b rules′
-        its-rows x o h =
-            let long = asked .ready .long o in
-            let same = h .kept .long in
-            record { asked = row-storable; head-coded = h .stands .coded .0; head-inside = omega arith; body-coded = h .stands .coded .1; size = h .size; stored = stored }
+        its-rows : (x : Tree false) → RuleStands program output names variables literals (cursor-at s) (s .number) x w names′ variables′ literals′ → RuleStored (names-of program output names′) (rule-for x) rules literals′ (s .number) (w .heads) (w .count) b rules′
+        its-rows x h = record { asked = row-storable; few-heads = h .few-heads; heads-coded = h .stands .coded .0; heads-size = h .heads-size; body-coded = h .stands .coded .1; size = h .size; stored = stored }
 
         pub put-goes : PutsRule program output names rules literals s answer names′ rules′ literals′
         put-goes = go g
@@ -105,7 +99,7 @@ module _ (program output : Bytes) (names variables rules literals : List ℕ) (s
             go (FillsRule.ended c e n l q) = absurd (true≢false (sym e ∙ t))
             go (FillsRule.stopped c q) = absurd (omega arith)
             go (FillsRule.read c e o x h q) =
-                let rows = its-rows x o h in
+                let rows = its-rows x h in
                 PutsRule.read c refl o x
                 (record {
                   forward = h .forward;
@@ -114,7 +108,7 @@ module _ (program output : Bytes) (names variables rules literals : List ℕ) (s
                   rules-kept = stored .kept;
                   literals-kept = h .kept;
                   stands = rule-stands rows;
-                  owns = own-rows (h .stands .coded .0) (h .few) stored;
+                  owns = own-rows (h .few-heads) (h .few) stored;
                   row = rule-row rows;
                   unbound = rw (h .firsts) (unbound-same (bound-is rows) unbound);
                   rest = h .rest;

@@ -185,7 +185,7 @@ rules-bound (p then r) rest more ts e none =
 bound-safe : (r : Rule false) → RuleBound r → safe (rule-for r) ≡ true
 bound-safe r h =
     let below = rule-below r (length (rule-variables r)) (omega arith) in
-    safe-of-bound (rule-for r) (length (rule-variables r)) h (record { in-its-head = below .0; in-its-body = below .1 })
+    safe-of-bound (rule-for r) (length (rule-variables r)) h (record { in-its-heads = below .0; in-its-body = below .1 })
 
 all-safe : (p : Program false) → AllBound p → every safe (rules-for p) ≡ true
 unfolding rules-for every

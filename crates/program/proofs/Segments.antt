@@ -15,7 +15,7 @@ use Rattle.reading.specs.Reading.{Placed, unplaced, seen}
 use Rattle.reading.proofs.Lists.{none-some, some-inj}
 use Rattle.meaning.specs.Rules.{Bytes}
 use Rattle.meaning.specs.Domain.{equal, unequal, less, at-most, greater, at-least}
-use Rattle.grammar.specs.Tokens.{Sign, sign, <>, underscore, not, minus, opening, closing, comma, dot, :-, plus, times, Token, name, variable, string, number, comparison, symbol, stray}
+use Rattle.grammar.specs.Tokens.{Sign, sign, <>, underscore, not, minus, opening, closing, comma, dot, :-, plus, times, bar, Token, name, variable, string, number, comparison, symbol, stray}
 use Rattle.grammar.specs.Variables.{Variables, number-of, with-variable, meet-symbol, meet}
 use Rattle.grammar.specs.Sizes.{programs}
 use Rattle.grammar.specs.Moves.{symbol-number, comparison-number, sign-number, token-number}
@@ -72,6 +72,7 @@ module _ (vs : Variables) where
   meeting (symbol :-) = passes refl not-less refl
   meeting (symbol plus) = passes refl not-less refl
   meeting (symbol times) = passes refl not-less refl
+  meeting (symbol bar) = passes refl not-less refl
   meeting (stray b) = passes refl not-less refl
 
 -- ---- the first occurrences, as far as the first dot

@@ -9,11 +9,11 @@ use Rattle.reading.specs.Reading.{_▹_, tokens, unplaced}
 use Rattle.reading.proofs.Lists.{tokens-append}
 use Rattle.meaning.specs.Domain.{Operation}
 use Rattle.grammar.specs.Tokens.{Sign, comma, dot, :-, Token, symbol}
-use Rattle.grammar.specs.Trees.{Sequence, empty, _then_, count, Term, name, variable, string, number, negative, anonymous, Arguments, bare, parentheses, arguments, Atom, atom, Literal, positive, negated, compared, computed, Rule, fact, clause}
-use Rattle.grammar.specs.Spelling.{Mark, inside, Spelling, mere, with-commas, spell-term, spell-argument, spell-arguments, spell-signed, spell-atom, spell-operation, spell-compared, spell-literal, spell-nth-literal, spell-head, spell-rule}
+use Rattle.grammar.specs.Trees.{Sequence, empty, _then_, count, Term, name, variable, string, number, negative, anonymous, Arguments, bare, parentheses, arguments, Atom, atom, Literal, positive, negated, compared, computed, Heads, head, also, Rule, fact, clause}
+use Rattle.grammar.specs.Spelling.{Mark, inside, Spelling, mere, with-commas, spell-term, spell-argument, spell-arguments, spell-signed, spell-atom, spell-operation, spell-compared, spell-literal, spell-nth-literal, spell-heads, spell-head, spell-rule}
 use Rattle.grammar.specs.Variables.{meet-symbol, meet, met}
 use Rattle.grammar.specs.Moves.{symbol-number, token-number}
-use Rattle.grammar.proofs.Variables.{met-append, met-atom}
+use Rattle.grammar.proofs.Variables.{met-append, met-heads}
 use Rattle.syntax.specs.Ahead.{ends-rule}
 use Rattle.syntax.proofs.Lists.{met-then}
 use Rattle.program.specs.Unbound.{Tokens, dots}
@@ -90,15 +90,20 @@ module _ {ground : Bool} where
   literal-dotless m (compared t r u) = compared-dotless m t r u
   literal-dotless m (computed t r u o v) = join (spell-compared m t r u) _ (compared-dotless m t r u) (rw (operation-goes o) (term-dotless inside v))
 
-  head-dotless : (m : Mark) (h : Option (Atom ground)) → Dotless (spell-head m h)
+  heads-dotless : (m : Mark) (hs : Heads ground) → Dotless (spell-heads m hs)
+  unfolding spell-heads dots-in tokens token-number symbol-number
+  heads-dotless m (head x) = atom-dotless m x
+  heads-dotless m (also u hs x) = join (spell-heads m hs) _ (heads-dotless m hs) (atom-dotless _ x)
+
+  head-dotless : (m : Mark) (h : Option (Heads ground)) → Dotless (spell-head m h)
   unfolding spell-head dots-in tokens token-number symbol-number
   head-dotless m none = refl
-  head-dotless m (some x) = join (spell-atom m x) _ (atom-dotless m x) refl
+  head-dotless m (some hs) = join (spell-heads m hs) _ (heads-dotless m hs) refl
 
-  head-met : (m : Mark) (h : Option (Atom ground)) → met [] (spell-head m h) ≡ head-variables h
+  head-met : (m : Mark) (h : Option (Heads ground)) → met [] (spell-head m h) ≡ head-variables h
   unfolding spell-head head-variables met meet meet-symbol
   head-met m none = refl
-  head-met m (some x) = met-append [] (spell-atom m x) (mere :- ∷ []) ∙ met-atom m inside [] x
+  head-met m (some hs) = met-append [] (spell-heads m hs) (mere :- ∷ []) ∙ met-heads m inside [] hs
 
   -- ---- the tokens of a rule: those before the dot, and the dot
   pub record Dotted (m : Mark) (r : Rule ground) : Type 0 where
@@ -109,7 +114,7 @@ module _ {ground : Bool} where
 
   pub dotted : (m : Mark) (r : Rule ground) → Dotted m r
   unfolding spell-rule rule-variables head-variables
-  dotted m (fact x) = record { front = spell-atom m x; whole = refl; no-dot = atom-dotless m x; meets = met-atom m inside [] x }
+  dotted m (fact hs) = record { front = spell-heads m hs; whole = refl; no-dot = heads-dotless m hs; meets = met-heads m inside [] hs }
   dotted m (clause u h ls l) =
       record {
         front = spell-head m h ++ with-commas spell-nth-literal ls ++ spell-nth-literal (suc (count ls)) l;

@@ -20,14 +20,15 @@ use Rattle.codes.specs.Codes.{Coded}
 use Rattle.codes.specs.Predicates.{CodedName}
 use Rattle.codes.specs.Related.{RelatedRule}
 use Rattle.names.specs.Table.{names-of}
-use Rattle.grammar.specs.Sizes.{most-literals}
-use Rattle.tables.specs.Layout.{literal-stride, rule-stride, rule-rows, head-literal-column, first-literal-column, literals-column, equations-column, positives-column}
-use Rattle.tables.specs.Rows.{no-literal, rule-column, equation-places, positive-places, rule-at}
+use Rattle.grammar.specs.Sizes.{most-heads, most-literals}
+use Rattle.tables.specs.Layout.{literal-stride, rule-stride, rule-rows, first-head-column, heads-column, first-literal-column, literals-column, equations-column, positives-column}
+use Rattle.tables.specs.Rows.{rule-column, equation-places, positive-places, rule-at}
 use Rattle.tables.specs.WellFormed.{RuleRow}
 use Rattle.tables.specs.Stored.{Kept}
 use Rattle.rows.specs.Growth.{Grows}
 use Rattle.terms.specs.declared.cursor.Cursor.{Cursor}
-use Rattle.clauses.specs.Clauses.{ReadyRule}
+use Rattle.clauses.specs.Heads.{ReadyRule}
+use Rattle.rulesafety.specs.RuleRow.{first-of-body}
 use Rattle.rulesafety.specs.Unbound.{no-unbound, FirstUnbound}
 use Rattle.program.specs.declared.put.RuleStart.{RuleStart}
 use Rattle.program.specs.declared.put.RulePut.{RulePut}
@@ -43,8 +44,9 @@ pub record Puttable (program output : Bytes) (names variables rules literals : L
 
 -- the rows that a rule's own row names are those of its number
 pub record Owns (rules : List ℕ) (number : ℕ) : Type 0 where
-  pub head : (rule-column rules number head-literal-column ≡ no-literal → ⊥) → rule-column rules number head-literal-column ≡ number * rule-rows
-  pub first : rule-column rules number first-literal-column ≡ number * rule-rows + 1
+  pub head : rule-column rules number first-head-column ≡ number * rule-rows
+  pub few-heads : rule-column rules number heads-column ≤ most-heads
+  pub first : rule-column rules number first-literal-column ≡ first-of-body number
   pub short : rule-column rules number literals-column ≤ most-literals
   pub few-equations : rule-column rules number equations-column ≤ most-literals
   pub equations : (l : ℕ) → In l (equation-places rules number) → (number * rule-rows ≤ l) × (l < number * rule-rows + rule-rows)

@@ -7,7 +7,6 @@ use rulesafety::unbound::NO_UNBOUND;
 use rulesafety::unbound::Unbound;
 use rulesafety::unbound::first_unbound;
 use syntax::token::Progress;
-use tables::ROWS;
 use terms::cursor::Cursor;
 use tokens::place::Place;
 
@@ -65,8 +64,7 @@ pub fn put_rule<'a>(
     if read.ended {
         return none_put(read.progress, true);
     }
-    let first = number * ROWS + 1;
-    let bound = put_rule_row(rules, literals, number, read.head, first, read.count);
+    let bound = put_rule_row(rules, literals, number, read.heads, read.count);
     let unbound = first_unbound(bound, variables, read.met);
     let progress = read.progress;
     RulePut {

@@ -62,8 +62,8 @@ module _ (the-program the-output : Bytes) (code : ℕ) (places : List ℕ) where
 
   report-of : (b : Bool) (report : Report) (c : Program false) (r : Result) → Reported the-program the-output places c report (on r) → r .answer ≡ claimed b → report ≡ claim b
   unfolding number
-  report-of true (facts line fs) c r (goes u _ h (goes v _ k (goes w _ l j))) e = absurd (omega (arith, judged-none _ _ r _ refl j, ap number e))
-  report-of false (facts line fs) c r (goes u _ h (goes v _ k (goes w _ l j))) e = absurd (omega (arith, judged-none _ _ r _ refl j, ap number e))
+  report-of true (facts line fs) c r (goes u _ h (goes v _ k (goes w _ l (goes x _ m j)))) e = absurd (omega (arith, judged-none _ _ r _ refl j, ap number e))
+  report-of false (facts line fs) c r (goes u _ h (goes v _ k (goes w _ l (goes x _ m j)))) e = absurd (omega (arith, judged-none _ _ r _ refl j, ap number e))
   report-of true claim-none c r h e = refl
   report-of false claim-none c r h e = absurd (omega (arith, ap number (ap (λ (z : Result). z .answer) (on-inj h)), ap number e))
   report-of true claim-unknown c r h e = absurd (omega (arith, ap number (ap (λ (z : Result). z .answer) (on-inj h)), ap number e))
@@ -94,7 +94,7 @@ module _ (the-program the-output : Bytes) (code : ℕ) (places : List ℕ) where
   -- ---- what is written
 
   reported-writes : (report : Report) (c : Program false) (r : Result) → Reported the-program the-output places c report (on r) → ((n k : ℕ) → ¬ (r .answer ≡ accepted n k)) → r .places ≡ places
-  reported-writes (facts line fs) c r (goes u _ h (goes v _ k (goes w _ l j))) f = judged-writes _ _ r _ refl j f
+  reported-writes (facts line fs) c r (goes u _ h (goes v _ k (goes w _ l (goes x _ m j)))) f = judged-writes _ _ r _ refl j f
   reported-writes claim-none c r h f = ap (λ (z : Result). z .places) (on-inj h)
   reported-writes claim-unknown c r h f = ap (λ (z : Result). z .places) (on-inj h)
 

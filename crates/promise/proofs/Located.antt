@@ -51,7 +51,8 @@ module _ (the-program the-output : Bytes) (places : List ℕ) where
       let l : length bytes ≤ line .len = simp (length-take, length-drop) (omega arith) in
       from-stands the-output (line .start + sentence true bytes k .start) (sentence true bytes k .len) (omega (arith, h .inside))
   reported-located (facts line fs) o c n p (goes u _ h (stops _ _ (given k))) = start-stands the-output
-  reported-located (facts line fs) o c n p (goes u _ h (goes v _ k (stops _ _ (first i _ x f)))) = sentence-stands false the-program i
+  reported-located (facts line fs) o c n p (goes u _ h (goes v _ k (stops _ _ (given l)))) = start-stands the-output
+  reported-located (facts line fs) o c n p (goes u _ h (goes v _ k (goes w _ l (stops _ _ (first i _ x f))))) = sentence-stands false the-program i
   reported-located claim-none o c n p h = absurd (on-stop (inv h))
   reported-located claim-unknown o c n p h = absurd (on-stop (inv h))
 
@@ -67,7 +68,7 @@ module _ (the-program the-output : Bytes) (places : List ℕ) where
       go (meant.smaller bs) = start-stands the-program
 
   handed-located : (report : Report) (c : Program false) (r : Result) → Reported the-program the-output places c report (on r) → Placed (fields (r .answer) .part)
-  handed-located (facts line fs) c r (goes u _ h (goes v _ k (goes w _ l j))) = judged-located r _ refl j
+  handed-located (facts line fs) c r (goes u _ h (goes v _ k (goes w _ l (goes x _ m j)))) = judged-located r _ refl j
   handed-located claim-none c r h = rw (on-inj h) (start-stands the-program)
   handed-located claim-unknown c r h = rw (on-inj h) (start-stands the-program)
 

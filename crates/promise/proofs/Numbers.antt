@@ -1,20 +1,21 @@
--- The check refuses exactly in the stated cases, and with a number from 1 to 10.
+-- The check refuses exactly in the stated cases, and with a number from 1 to 10, or with 12 a program in which some rule has several heads.
 use mathlib.Core.Path.{_≡_, refl, sym as inv, ap, _∙_}
 use mathlib.Core.Bool.{Bool, true, false, false≢true, _||_}
-use mathlib.Core.Logic.{_↔_}
+use mathlib.Core.Logic.{_↔_, _⊎_, inl, inr}
 use mathlib.Core.List.{List}
 use Prim.Native.Nat.{ℕ, suc, _≤_}
 use native.Mathlib.Decide.{ℕ-discrete}
 use native.Mathlib.Omega.{arith}
 use Rattle.tokens.specs.declared.place.Place.{Place}
 use Rattle.reading.specs.Reading.{Marked}
-use Rattle.meaning.specs.Rules.{Bytes, Fact, Rule}
+use Rattle.meaning.specs.Rules.{Bytes, Fact, Rule, disjunctive}
 use Rattle.meaning.specs.Values.{Value}
 use Rattle.meaning.specs.Verdicts.{Verdict}
 use Rattle.meaning.specs.Verdicts as meant
 use Rattle.grammar.specs.Tokens.{Token}
 use Rattle.grammar.specs.Spelling.{Mark}
 use Rattle.grammar.specs.Trees.{Program}
+use Rattle.grammar.specs.Abstraction.{rules-for}
 use Rattle.grammar.specs.Variables.{Variables}
 use Rattle.grammar.specs.Sizes.{too-big, too-long, too-many, too-many-variables, refusal, fault}
 use Rattle.report.specs.declared.word.Word.{Word}
@@ -23,13 +24,14 @@ use Rattle.stages.specs.Parts.{Part}
 use Rattle.stages.specs.Stage.{Outcome, on, stop, stops, goes, given, passed, without}
 use Rattle.stages.proofs.Unique.{on-stop, on-inj}
 use Rattle.stages.proofs.Numbers.{Among, then-among, refuse-among, first-among, reads-among}
+use Rattle.program.specs.Stage.{ProgramStage}
 use Rattle.program.proofs.Taken.{refused-between}
 use Rattle.output.specs.Output.{Report, facts, claim-none, claim-unknown, Opening, refuses, Closing, stray, Behind, OutputStage}
 use Rattle.promise.specs.Answer.{Answer, refused, accepted, unsatisfied, smaller, claimed-none, claimed-unknown, Result, says, result}
 use Rattle.promise.specs.Cases.{Clash, repeats, opposes, Leaves, leaves}
 use Rattle.promise.specs.Judged.{VerdictStage, judged}
 use Rattle.promise.specs.Answered.{Candidate, Reported, code-of, Check, Answered}
-use Rattle.promise.specs.Refusals.{Read, Case, of-program, of-output, of-code, of-facts, of-room, of-range}
+use Rattle.promise.specs.Refusals.{Read, Case, of-program, of-output, of-code, of-facts, of-room, of-subsets, of-range}
 use Rattle.promise.proofs.Unique.{check-one}
 
 is-refusal : Answer → Bool
@@ -79,6 +81,12 @@ clash-among I i n (opposes _ j a l e f) = (omega arith, omega arith)
 leaves-eight : (P : List (Rule Value)) (I : List (Fact Value)) (i n : ℕ) → Leaves P I i n → (8 ≤ n) × (n ≤ 8)
 leaves-eight P I i n (leaves r e ps h) = (omega arith, omega arith)
 
+-- a program that is read, and some rule of which has several heads
+pub record SeveralHeads (the-program : Bytes) : Type 0 where
+  pub program : Program false
+  pub program-read : ProgramStage the-program (on program)
+  pub several : disjunctive (rules-for program) ≡ true
+
 -- ---- exactly in the stated cases
 
 module _ (the-program the-output : Bytes) (code : ℕ) (places : List ℕ) where
@@ -91,8 +99,9 @@ module _ (the-program the-output : Bytes) (code : ℕ) (places : List ℕ) where
   candidate-case : (c : Program false) (line : Place) (fs : Program true) → Read the-program the-output code c (facts line fs) → (n : ℕ) (p : Part) → Candidate the-program the-output places c line fs (stop n p) → Here n p
   candidate-case c line fs r n p (stops _ _ h) = of-facts c line fs r n p h
   candidate-case c line fs r n p (goes u _ (without clean) (stops _ _ (given short))) = of-room c line fs r clean short
-  candidate-case c line fs r n p (goes u _ (without clean) (goes v _ (passed room) (stops _ _ h))) = of-range c line fs r clean (omega (arith, room)) n p h
-  candidate-case c line fs r n p (goes u _ (without clean) (goes v _ (passed room) (goes w _ h k))) = absurd (on-stop (judged-on _ _ _ k .1))
+  candidate-case c line fs r n p (goes u _ (without clean) (goes v _ (passed room) (stops _ _ (given many)))) = of-subsets c line fs r clean (omega (arith, room)) many
+  candidate-case c line fs r n p (goes u _ (without clean) (goes v _ (passed room) (goes w _ (passed tested) (stops _ _ h)))) = of-range c line fs r clean (omega (arith, room)) tested n p h
+  candidate-case c line fs r n p (goes u _ (without clean) (goes v _ (passed room) (goes w _ h (goes x _ l k)))) = absurd (on-stop (judged-on _ _ _ k .1))
 
   reported-case : (c : Program false) (r : Report) → Read the-program the-output code c r → (n : ℕ) (p : Part) → Reported the-program the-output places c r (stop n p) → Here n p
   reported-case c (facts line fs) read n p h = candidate-case c line fs read n p h
@@ -117,7 +126,8 @@ module _ (the-program the-output : Bytes) (code : ℕ) (places : List ℕ) where
   case-stop n p (of-code c h r k differs) = goes c _ h (goes r _ k (stops _ _ (given differs)))
   case-stop n p (of-facts c line fs r _ _ h) = on-candidate c line fs r _ (stops n p h)
   case-stop n p (of-room c line fs r clean short) = on-candidate c line fs r _ (goes tt _ (without clean) (stops _ _ (given short)))
-  case-stop n p (of-range c line fs r clean room _ _ h) = on-candidate c line fs r _ (goes tt _ (without clean) (goes tt _ (passed (λ k. absurd (omega (arith, k, room)))) (stops n p h)))
+  case-stop n p (of-subsets c line fs r clean room many) = on-candidate c line fs r _ (goes tt _ (without clean) (goes tt _ (passed (λ k. absurd (omega (arith, k, room)))) (stops _ _ (given many))))
+  case-stop n p (of-range c line fs r clean room tested _ _ h) = on-candidate c line fs r _ (goes tt _ (without clean) (goes tt _ (passed (λ k. absurd (omega (arith, k, room)))) (goes tt _ (passed tested) (stops n p h))))
 
   -- ---- a stage that hands on an answer hands on no refusal
 
@@ -132,7 +142,7 @@ module _ (the-program the-output : Bytes) (code : ℕ) (places : List ℕ) where
 
   reported-none : (c : Program false) (report : Report) (r : Result) → Reported the-program the-output places c report (on r) → is-refusal (r .answer) ≡ false
   unfolding is-refusal
-  reported-none c (facts line fs) r (goes u _ h (goes v _ k (goes w _ l j))) = judged-none _ _ r _ refl j
+  reported-none c (facts line fs) r (goes u _ h (goes v _ k (goes w _ l (goes x _ m j)))) = judged-none _ _ r _ refl j
   reported-none c claim-none r h = let z : r ≡ record { answer = claimed-none; places = places } = on-inj h in rw z
   reported-none c claim-unknown r h = let z : r ≡ record { answer = claimed-unknown; places = places } = on-inj h in rw z
 
@@ -151,11 +161,12 @@ module _ (the-program the-output : Bytes) (code : ℕ) (places : List ℕ) where
       let so : a ≡ result places (h .outcome) .answer = ap (λ r. r .answer) (h .so) in
       (λ e. stop-case n p (rw (hands-on (h .outcome) (h .checked) n p (inv so ∙ e)) at (h .checked)), λ k. so ∙ stop-answer n p _ (check-one the-program the-output places code _ _ (h .checked) (case-stop n p k)))
 
-  -- and its number is one of 1 to 10
-  pub numbers : (n : ℕ) (p : Part) → Here n p → (1 ≤ n) × (n ≤ 10)
-  numbers n p (of-program _ _ h) = let z = refused-between the-program n p h in (z .0, omega (arith, z .1))
-  numbers n p (of-output c h _ _ k) = let z = output-among the-output n p k in (z .0, omega (arith, z .1))
-  numbers n p (of-code c h r k differs) = (omega arith, omega arith)
-  numbers n p (of-facts c line fs r _ _ h) = let z = first-among 6 7 _ _ (clash-among _) n p h in (omega (arith, z .0), omega (arith, z .1))
-  numbers n p (of-room c line fs r clean short) = (omega arith, omega arith)
-  numbers n p (of-range c line fs r clean room _ _ h) = let z = first-among 8 8 _ _ (leaves-eight _ _) n p h in (omega (arith, z .0), omega (arith, z .1))
+  -- and its number is one of 1 to 10, or 12, which only a program with several heads in some rule gets
+  pub numbers : (n : ℕ) (p : Part) → Here n p → ((1 ≤ n) × (n ≤ 10)) ⊎ ((n ≡ 12) × SeveralHeads the-program)
+  numbers n p (of-program _ _ h) = let z = refused-between the-program n p h in inl (z .0, omega (arith, z .1))
+  numbers n p (of-output c h _ _ k) = let z = output-among the-output n p k in inl (z .0, omega (arith, z .1))
+  numbers n p (of-code c h r k differs) = inl (omega arith, omega arith)
+  numbers n p (of-facts c line fs r _ _ h) = let z = first-among 6 7 _ _ (clash-among _) n p h in inl (omega (arith, z .0), omega (arith, z .1))
+  numbers n p (of-room c line fs r clean short) = inl (omega arith, omega arith)
+  numbers n p (of-subsets c line fs r clean room many) = inr (refl, record { program = c; program-read = r .program-read; several = many .several })
+  numbers n p (of-range c line fs r clean room tested _ _ h) = let z = first-among 8 8 _ _ (leaves-eight _ _) n p h in inl (omega (arith, z .0), omega (arith, z .1))

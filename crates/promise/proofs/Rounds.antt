@@ -1,15 +1,17 @@
 -- ROUNDS is at most the number of atoms, of every answer: the rules of a program that is read are safe, and a candidate that is accepted breaks no
--- instance of them.
+-- instance of them. Where some rule has several heads it is zero.
 use mathlib.Core.Path.{_≡_, refl, ap}
-use mathlib.Core.Bool.{true, false}
+use mathlib.Core.Bool.{Bool, true, false, cond}
 use mathlib.Core.List.{List}
 use Prim.Native.Nat.{ℕ, _≤_}
 use native.Mathlib.Omega.{arith}
+use lib.ListN.{length}
 use Rattle.meaning.specs.Sets.{every}
-use Rattle.meaning.specs.Rules.{Bytes, Fact, Rule}
+use Rattle.meaning.specs.Rules.{Bytes, Fact, Rule, disjunctive}
 use Rattle.meaning.specs.Values.{Value, values}
 use Rattle.meaning.specs.Safety.{safe}
-use Rattle.meaning.specs.Verdicts.{Verdict, Means}
+use Rattle.meaning.specs.AnswerSets.{Broken}
+use Rattle.meaning.specs.Verdicts.{Verdict, by-rounds, by-subsets, way, RoundsBy, MeansBy, Means}
 use Rattle.meaning.specs.Verdicts as meant
 use Rattle.meaning.proofs.Values.{value-laws}
 use Rattle.meaning.proofs.Rounds as meaning-rounds
@@ -29,9 +31,14 @@ abbrev AtMost : Answer → Type 0
 AtMost a = fields a .rounds ≤ fields a .atoms
 
 module _ (places : List ℕ) (P : List (Rule Value)) (I : List (Fact Value)) (all-safe : every safe P ≡ true) where
+  given-at-most : (b : Bool) → disjunctive P ≡ b → ¬ Broken values P I → (k : ℕ) (ks : List ℕ) → RoundsBy (cond b by-subsets by-rounds) values P I k ks → k ≤ length I
+  unfolding RoundsBy
+  given-at-most true e unbroken k ks h = omega (arith, h .is-zero)
+  given-at-most false e unbroken k ks h = meaning-rounds.rounds-at-most values value-laws P I all-safe unbroken e k (h .is-rounds)
+
   says-at-most : (v : Verdict) → Means values P I v → AtMost (says places v .answer)
-  unfolding says Means
-  says-at-most (meant.accepted n k ks) m = omega (arith, m .count, meaning-rounds.rounds-at-most values value-laws P I all-safe (m .is-accepted .unbroken) k (m .is-rounds))
+  unfolding says Means MeansBy way
+  says-at-most (meant.accepted n k ks) m = omega (arith, m .count, given-at-most (disjunctive P) refl (m .is-accepted .unbroken) k ks (m .given))
   says-at-most (meant.unsatisfied r ps) m = omega arith
   says-at-most (meant.smaller bs) m = omega arith
 
@@ -40,7 +47,7 @@ module _ (places : List ℕ) (P : List (Rule Value)) (I : List (Fact Value)) (al
 
 module _ (the-program the-output : Bytes) (code : ℕ) (places : List ℕ) where
   reported-at-most : (report : Report) (c : Program false) → ProgramStage the-program (on c) → (r : Result) → Reported the-program the-output places c report (on r) → AtMost (r .answer)
-  reported-at-most (facts line fs) c read r (goes u _ h (goes v _ k (goes w _ l j))) = judged-at-most places (rules-for c) (facts-for fs) (read-is-safe the-program c read) r _ refl j
+  reported-at-most (facts line fs) c read r (goes u _ h (goes v _ k (goes w _ l (goes x _ m j)))) = judged-at-most places (rules-for c) (facts-for fs) (read-is-safe the-program c read) r _ refl j
   reported-at-most claim-none c read r h = rw (on-inj h) (omega arith)
   reported-at-most claim-unknown c read r h = rw (on-inj h) (omega arith)
 

@@ -16,7 +16,7 @@ use Rattle.promise.proofs.Judged.{settled-one}
 
 module _ (the-program the-output : Bytes) (places : List ℕ) where
   pub candidate-one : (c : Program false) (line : Place) (fs : Program true) → One (Candidate the-program the-output places c line fs)
-  candidate-one c line fs = then-one _ _ (first-one _ _) (λ u. then-one _ _ (refuse-one _ _ _) (λ v. settled-one _ _ _ _))
+  candidate-one c line fs = then-one _ _ (first-one _ _) (λ u. then-one _ _ (refuse-one _ _ _) (λ v. then-one _ _ (refuse-one _ _ _) (λ w. settled-one _ _ _ _)))
 
   pub reported-one : (c : Program false) (r : Report) → One (Reported the-program the-output places c r)
   reported-one c (facts line fs) = candidate-one c line fs

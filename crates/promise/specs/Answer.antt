@@ -33,7 +33,7 @@ positions n [] = []
 positions n (true ∷ bs) = n ∷ positions (suc n) bs
 positions n (false ∷ bs) = positions (suc n) bs
 
--- a verdict as an answer. Only ACCEPTED writes: each atom's round, from the first place on, and later places are as they were
+-- a verdict as an answer. Only ACCEPTED writes, where it has rounds: each atom's, from the first place on, and later places are as they were
 unfoldable pub says : List ℕ → Verdict → Result
 says places (meant.accepted n k ks) = record { answer = accepted n k; places = ks ++ drop (length ks) places }
 says places (meant.unsatisfied r ps) = record { answer = unsatisfied r ps; places = places }

@@ -15,7 +15,7 @@ use Rattle.rule_places.specs.Sentences.{sentence}
 use Rattle.program.specs.Stage.{ProgramStage}
 use Rattle.output.specs.Output.{Report, facts, claim-none, claim-unknown, on-line, OutputStage}
 use Rattle.promise.specs.Answer.{Answer, claimed-none, claimed-unknown, Result, result}
-use Rattle.promise.specs.Cases.{Clash}
+use Rattle.promise.specs.Cases.{Clash, TooManyTested}
 use Rattle.promise.specs.Judged.{Settled}
 
 -- ---- the parts of rules and facts, each from its first token to its dot
@@ -28,11 +28,12 @@ fact-part text line k = in-text output (on-line text line (sentence true (part t
 
 -- ---- the stages
 
--- with ANSWER: 6 and 7; 9; 8; the verdict
+-- with ANSWER: 6 and 7; 9; 12; 8; the verdict
 abbrev pub Candidate : (the-program the-output : Bytes) → List ℕ → Program false → Place → Program true → Stage Result
 Candidate the-program the-output places c line fs =
     First (fact-part the-output line) (Clash (facts-for fs)) ⟫ λ _.
     Refuse 9 (start-of output) (length places < length (facts-for fs)) ⟫ λ _.
+    Refuse 12 (start-of output) (TooManyTested (rules-for c) (facts-for fs)) ⟫ λ _.
     Settled (rule-part the-program) (rules-for c) (facts-for fs) places
 
 -- by the report: a candidate, or what is only claimed

@@ -1,11 +1,11 @@
--- The cases of refusal that speak of rules and facts: 6, 7 and 8.
+-- The cases of refusal that speak of rules and facts: 6, 7, 8 and 12.
 use mathlib.Core.Path.{_≡_}
-use mathlib.Core.Bool.{not}
+use mathlib.Core.Bool.{true, not}
 use mathlib.Core.Option.{some}
 use mathlib.Core.List.{List}
 use Prim.Native.Nat.{ℕ, _<_}
-use lib.ListN.{getElem?}
-use Rattle.meaning.specs.Rules.{Fact, Rule}
+use lib.ListN.{length, getElem?}
+use Rattle.meaning.specs.Rules.{Fact, Rule, disjunctive}
 use Rattle.meaning.specs.Values.{Value, values, in-range}
 use Rattle.meaning.specs.Matchings.{OverflowAt}
 
@@ -17,6 +17,15 @@ opposite a = record { negative = not (a .negative); name = a .name; arguments = 
 pub data Clash (I : List (Fact Value)) : ℕ → ℕ → Type 0 where
   repeats : (i j : ℕ) (a : Fact Value) → j < i → getElem? I j ≡ some a → getElem? I i ≡ some a → Clash I i 6
   opposes : (i j : ℕ) (a : Fact Value) → j < i → getElem? I j ≡ some (opposite a) → getElem? I i ≡ some a → Clash I i 7
+
+-- the most facts of a candidate that is tested against every proper subset
+abbrev pub most-tested : ℕ
+most-tested = 20
+
+-- some rule has two heads or more, so the candidate is to be tested so, and it has too many facts: 12
+pub record TooManyTested (P : List (Rule Value)) (I : List (Fact Value)) : Type 0 where
+  pub several : disjunctive P ≡ true
+  pub many : most-tested < length I
 
 -- some matching of rule i (from 0) leaves the range: 8
 pub data Leaves (P : List (Rule Value)) (I : List (Fact Value)) (i : ℕ) : ℕ → Type 0 where

@@ -1,4 +1,4 @@
--- When the check refuses: the cases of the ten numbers, each with its part.
+-- When the check refuses: the cases of the eleven numbers, 1 to 10 and 12, each with its part.
 use mathlib.Core.Path.{_≡_}
 use mathlib.Core.Bool.{true, false}
 use mathlib.Core.List.{List}
@@ -12,7 +12,7 @@ use Rattle.stages.specs.Parts.{output, Part, start-of}
 use Rattle.stages.specs.Stage.{on, stop, First}
 use Rattle.program.specs.Stage.{ProgramStage}
 use Rattle.output.specs.Output.{Report, facts, OutputStage}
-use Rattle.promise.specs.Cases.{Clash, Leaves}
+use Rattle.promise.specs.Cases.{Clash, TooManyTested, Leaves}
 use Rattle.promise.specs.Answered.{rule-part, fact-part, code-of}
 
 -- program and output are read as these, and the code agrees
@@ -37,5 +37,7 @@ pub data Case (the-program the-output : Bytes) (code : ℕ) (places : List ℕ) 
   of-facts : (c : Program false) (line : Place) (fs : Program true) → Read the-program the-output code c (facts line fs) → (n : ℕ) (p : Part) → First (fact-part the-output line) (Clash (facts-for fs)) (stop n p) → Case the-program the-output code places n p
   -- fewer places than facts
   of-room : (c : Program false) (line : Place) (fs : Program true) → Read the-program the-output code c (facts line fs) → Unclashing fs → length places < length (facts-for fs) → Case the-program the-output code places 9 (start-of output)
+  -- a rule with several heads, and too many facts to be tested against every proper subset
+  of-subsets : (c : Program false) (line : Place) (fs : Program true) → Read the-program the-output code c (facts line fs) → Unclashing fs → length (facts-for fs) ≤ length places → TooManyTested (rules-for c) (facts-for fs) → Case the-program the-output code places 12 (start-of output)
   -- 8 at the first rule of which some matching leaves the range
-  of-range : (c : Program false) (line : Place) (fs : Program true) → Read the-program the-output code c (facts line fs) → Unclashing fs → length (facts-for fs) ≤ length places → (n : ℕ) (p : Part) → First (rule-part the-program) (Leaves (rules-for c) (facts-for fs)) (stop n p) → Case the-program the-output code places n p
+  of-range : (c : Program false) (line : Place) (fs : Program true) → Read the-program the-output code c (facts line fs) → Unclashing fs → length (facts-for fs) ≤ length places → ¬ TooManyTested (rules-for c) (facts-for fs) → (n : ℕ) (p : Part) → First (rule-part the-program) (Leaves (rules-for c) (facts-for fs)) (stop n p) → Case the-program the-output code places n p

@@ -1,6 +1,5 @@
 -- Laws of the table of names as it grows: what stood for something stands for it still.
 use mathlib.Core.Path.{refl, sym, ap, _∙_}
-use mathlib.Core.Option.{none, some}
 use mathlib.Core.List.{List, [], _∷_, _++_, append-assoc, append-nil}
 use Prim.Native.Nat.{ℕ, _+_, _≤_}
 use native.Mathlib.Omega.{arith}
@@ -10,7 +9,7 @@ use Rattle.meaning.specs.Rules.{Bytes, Term, plain, Atom, Fact, Literal, builti
 use Rattle.meaning.specs.Values.{Value}
 use Rattle.codes.specs.Codes.{Coded}
 use Rattle.codes.specs.Predicates.{CodedName}
-use Rattle.codes.specs.Related.{Pairwise, end, pair, Perhaps, neither, both, RelatedTerm, RelatedAtom, both-plain, RelatedLiteral, both-builtin, RelatedRule}
+use Rattle.codes.specs.Related.{Pairwise, end, pair, RelatedTerm, RelatedAtom, both-plain, RelatedLiteral, both-builtin, RelatedRule}
 use Rattle.codes.proofs.Pairwise.{pairwise-more}
 use Rattle.codes.proofs.Names.{coded-name-more, coded-fact-more, coded-rule-more}
 use Rattle.names.specs.declared.Found.the-variants.{At}
@@ -23,9 +22,6 @@ use Rattle.rows.specs.Coding.{CodedTerm}
 -- a part of what is related is related
 first-pair : {A B : Type 0} {R : A → B → Type 0} {a : A} {b : B} {xs : List A} {ys : List B} → Pairwise R (a ∷ xs) (b ∷ ys) → R a b
 first-pair (pair r rs) = r
-
-in-both : {A B : Type 0} {R : A → B → Type 0} {a : A} {b : B} → Perhaps R (some a) (some b) → R a b
-in-both (both r) = r
 
 left-of : {A B : Type 0} {N : Bytes → Bytes → Type 0} {R : A → B → Type 0} {t : Term A} {u : Term B} → RelatedLiteral N R (builtin equal t (plain t)) (builtin equal u (plain u)) → RelatedTerm R t u
 left-of (both-builtin k t e) = t
@@ -68,10 +64,10 @@ module _ (program output : Bytes) where
     keeps-rule r s = rw (g .behind) (coded-rule-more _ (g .more) r s)
 
     pub keeps-literal : (a : Literal ℕ) (b : Literal Value) → RelatedLiteral (CodedName (names-of program output names)) (Coded (names-of program output names)) a b → RelatedLiteral (CodedName (names-of program output names′)) (Coded (names-of program output names′)) a b
-    keeps-literal a b h = first-pair (keeps-rule (record { head = none; body = a ∷ [] }) (record { head = none; body = b ∷ [] }) (record { head = neither; body = pair h end }) .body)
+    keeps-literal a b h = first-pair (keeps-rule (record { heads = []; body = a ∷ [] }) (record { heads = []; body = b ∷ [] }) (record { heads = end; body = pair h end }) .body)
 
     pub keeps-atom : (a : Atom (Term ℕ)) (b : Atom (Term Value)) → RelatedAtom (CodedName (names-of program output names)) (RelatedTerm (Coded (names-of program output names))) a b → RelatedAtom (CodedName (names-of program output names′)) (RelatedTerm (Coded (names-of program output names′))) a b
-    keeps-atom a b h = in-both (keeps-rule (record { head = some a; body = [] }) (record { head = some b; body = [] }) (record { head = both h; body = end }) .head)
+    keeps-atom a b h = first-pair (keeps-rule (record { heads = a ∷ []; body = [] }) (record { heads = b ∷ []; body = [] }) (record { heads = pair h end; body = end }) .heads)
 
     pub keeps-term : (c : ℕ) (t : Term Value) → CodedTerm (names-of program output names) c t → CodedTerm (names-of program output names′) c t
     keeps-term c t h = record { related = left-of (keeps-literal _ _ (both-builtin equal (h .related) (both-plain (h .related)))); valued = h .valued }

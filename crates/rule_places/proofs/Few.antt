@@ -9,8 +9,8 @@ use borrow.Author.Tests.{ltb-false}
 use Rattle.reading.specs.Reading.{_at_, Placed, Within, tree, Reading, read}
 use Rattle.reading.proofs.Lists.{within-split}
 use Rattle.grammar.specs.Tokens.{Token}
-use Rattle.grammar.specs.Trees.{empty, _then_, count, Atom, atom, Rule, fact, clause, Program}
-use Rattle.grammar.specs.Spelling.{Mark, rule, Spelling, spell-signed, spell-atom, spell-head, spell-rule, spell}
+use Rattle.grammar.specs.Trees.{empty, _then_, count, Atom, atom, Heads, head, also, Rule, fact, clause, Program}
+use Rattle.grammar.specs.Spelling.{Mark, rule, Spelling, spell-signed, spell-atom, spell-heads, spell-head, spell-rule, spell}
 use Rattle.grammar.specs.Variables.{Variables}
 use Rattle.grammar.specs.Sizes.{too-big, too-long, most-rules, too-many, too-many-variables, refusal, fault, language}
 
@@ -41,11 +41,16 @@ module _ {ground : Bool} (m : Mark) where
   atom-begins (atom true b xs) = record { first = _; rest = _; split = refl }
   atom-begins (atom false b xs) = record { first = _; rest = _; split = refl }
 
+  heads-begin : (hs : Heads ground) → Begins m (spell-heads m hs)
+  unfolding spell-heads
+  heads-begin (head x) = atom-begins x
+  heads-begin (also u hs x) = begins-on _ (heads-begin hs)
+
   rule-begins : (r : Rule ground) → Begins m (spell-rule m r)
   unfolding spell-rule spell-head
-  rule-begins (fact x) = begins-on _ (atom-begins x)
+  rule-begins (fact hs) = begins-on _ (heads-begin hs)
   rule-begins (clause u none ls l) = record { first = _; rest = _; split = refl }
-  rule-begins (clause u (some x) ls l) = begins-on _ (begins-on _ (begins-on _ (begins-on _ (atom-begins x))))
+  rule-begins (clause u (some hs) ls l) = begins-on _ (begins-on _ (begins-on _ (begins-on _ (heads-begin hs))))
 
 begins-within : (ground : Bool) (vs : Variables) (m : Mark) (s : Spelling) → Begins m s → Within (language ground) vs s → too-many ground m ≡ false
 unfolding Within

@@ -1,22 +1,22 @@
--- The numbers of a rule, read where they are stored: six, the equations' rows and the positive literals' rows, one behind the other.
+-- The numbers of a rule, read where they are stored: seven, the equations' rows and the positive literals' rows, one behind the other.
 use mathlib.Core.Path.{_≡_, refl, sym, ap, _∙_}
 use mathlib.Core.List.{List, [], _∷_}
 use Prim.Native.Nat.{ℕ, _+_, _*_, _≤_, _<_}
 use native.Mathlib.Omega.{arith}
 use lib.ListN.{length, getD, take, drop}
 use Rattle.grammar.specs.Sizes.{most-literals}
-use Rattle.tables.specs.Layout.{rule-stride, head-literal-column, first-literal-column, literals-column, has-operation-column, equations-column, positives-column, equation-places-column, positive-places-column}
+use Rattle.tables.specs.Layout.{rule-rows, rule-stride, first-head-column, heads-column, first-literal-column, literals-column, has-operation-column, equations-column, positives-column, equation-places-column, positive-places-column}
 use Rattle.tables.specs.Stored.{with-row, Kept}
 use Rattle.tables.proofs.Stored.{number-of-part, put-kept-of, put-part-of, kept-then, kept-wider, kept-part}
 use Rattle.rulesafety.specs.declared.rule_row.Numbers.{Numbers}
 use Rattle.rulesafety.specs.RuleRow.{NumbersStored}
 
-module _ (rules₀ : List ℕ) (number head first : ℕ) (n : Numbers) (long : number * rule-stride + rule-stride ≤ length rules₀) where
+module _ (rules₀ : List ℕ) (number first : ℕ) (n : Numbers) (long : number * rule-stride + rule-stride ≤ length rules₀) where
   abbrev at : ℕ
   at = number * rule-stride
 
   abbrev header : List ℕ
-  header = head ∷ first ∷ n .literals ∷ n .operation ∷ n .equations .count ∷ n .positives .count ∷ []
+  header = number * rule-rows ∷ n .heads ∷ first ∷ n .literals ∷ n .operation ∷ n .equations .count ∷ n .positives .count ∷ []
 
   module _ (rules₁ : List ℕ) (one : rules₁ ≡ with-row rules₀ at header) where
     kept₁ : Kept at (at + equation-places-column) rules₀ rules₁
@@ -46,12 +46,13 @@ module _ (rules₀ : List ℕ) (number head first : ℕ) (n : Numbers) (long : n
         column : (j : ℕ) → j < equation-places-column → getD rules₃ (at + j) 0 ≡ getD header j 0
         column j h = sym (number-of-part equation-places-column at j rules₃ h) ∙ ap (λ (t : List ℕ). getD t j 0) header-part
 
-        pub numbers-stored : NumbersStored rules₀ number head first n rules₃
+        pub numbers-stored : NumbersStored rules₀ number first n rules₃
         numbers-stored =
             let end = at + rule-stride in
             record {
               kept = kept-then (kept-wider kept₁ at end (omega arith) (omega arith)) (kept-then (kept-wider kept₂ at end (omega arith) (omega arith)) (kept-wider kept₃ at end (omega arith) (omega arith)));
-              head-row = column head-literal-column (omega arith);
+              head-row = column first-head-column (omega arith);
+              heads = column heads-column (omega arith);
               first-row = column first-literal-column (omega arith);
               literals = column literals-column (omega arith);
               operation = column has-operation-column (omega arith);

@@ -1,7 +1,6 @@
 -- A rule is safe exactly where no variable that stands in it is unbound.
 use mathlib.Core.Path.{_≡_, refl, sym, _∙_}
 use mathlib.Core.Bool.{Bool, true, false, not, _&&_, false≢true}
-use mathlib.Core.Option.{Option, none, some}
 use mathlib.Core.List.{List}
 use Prim.Native.Nat.{ℕ, _<_}
 use lib.Dec.{ltb}
@@ -45,24 +44,23 @@ module _ {U : Type 0} (B C : ℕ → Bool) (more : B ⊆ C) where
   literal-more (negated a) h = atom-more a h
   literal-more (builtin c t e) h = and-both _ _ (term-more t (and-left _ _ h)) (side-more e (and-right (term-bound B t) _ h))
 
-  head-more : (h : Option (Atom (Term U))) → head-bound B h ≡ true → head-bound C h ≡ true
+  heads-more : (hs : List (Atom (Term U))) → head-bound B hs ≡ true → head-bound C hs ≡ true
   unfolding head-bound
-  head-more none k = refl
-  head-more (some a) k = atom-more a k
+  heads-more hs h = every-more (atom-bound B) (atom-bound C) hs atom-more h
 
 -- ---- safe
 
 module _ {U : Type 0} (m : Rule U) where
-  -- every variable of the head and of the body has a number below n
+  -- every variable of the heads and of the body has a number below n
   pub record NumbersBelow (n : ℕ) : Type 0 where
-    pub in-its-head : head-bound (λ x. ltb x n) (m .head) ≡ true
+    pub in-its-heads : head-bound (λ x. ltb x n) (m .heads) ≡ true
     pub in-its-body : every (literal-bound (λ x. ltb x n)) (m .body) ≡ true
 
   pub safe-of-bound : (n : ℕ) → AllBelow (bound m) n → NumbersBelow n → safe m ≡ true
   unfolding safe
   safe-of-bound n all numbers =
       let more : (λ x. ltb x n) ⊆ bound m = λ x h. all x (ltb-true x n h) in
-      and-both _ _ (head-more _ _ more (m .head) (numbers .in-its-head)) (every-more _ _ (m .body) (literal-more _ _ more) (numbers .in-its-body))
+      and-both _ _ (heads-more _ _ more (m .heads) (numbers .in-its-heads)) (every-more _ _ (m .body) (literal-more _ _ more) (numbers .in-its-body))
 
   pub unsafe-of-unbound : (x : ℕ) → in-rule x m ≡ true → bound m x ≡ false → safe m ≡ false
   unsafe-of-unbound x k u = go (safe m) refl

@@ -1,7 +1,6 @@
 -- Sets of a rule's variables, the variables that a literal adds to one, and the rows of a body.
 use mathlib.Core.Path.{_≡_}
 use mathlib.Core.Bool.{Bool, true, false, _||_}
-use mathlib.Core.Option.{none}
 use mathlib.Core.List.{List, [], _∷_}
 use Prim.Native.Nat.{ℕ, _+_, _*_, _≤_}
 use lib.ListN.{length, getD, set, replicate}
@@ -38,6 +37,6 @@ in-literal l = in-positives (l ∷ [])
 abbrev pub BodyInside : List ℕ → ℕ → ℕ → Type 0
 BodyInside literals first count = (first + count) * literal-stride ≤ length literals
 
--- the rule with this body; its head does not matter here
+-- the rule with this body; its heads do not matter here
 abbrev pub body-at : List ℕ → ℕ → ℕ → Rule ℕ
-body-at literals first count = record { head = none; body = from (literal-at literals) count first }
+body-at literals first count = record { heads = []; body = from (literal-at literals) count first }

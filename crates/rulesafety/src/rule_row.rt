@@ -15,12 +15,15 @@ use tables::LITERAL;
 use tables::NO_OPERATION;
 use tables::OPERATION;
 use tables::POSITIVE_PLACES;
+use tables::ROWS;
 use tables::RULE;
 use tables::row::put_row;
+use tokens::sizes::MOST_HEADS;
 
-// What a rule's own row says of its body: how many literals, whether one has an operation, the rows of the equations that bind and of the
-// positive literals.
+// What a rule's own row says of it: how many heads it has, how many literals its body, whether one has an operation, the rows of the equations
+// that bind and of the positive literals.
 struct Numbers {
+    heads: usize,
     literals: usize,
     operation: u64,
     equations: Rows,
@@ -42,16 +45,17 @@ fn has_operation(literals: &[u64], first: usize, count: usize) -> u64
     0
 }
 
-// The row of the rule with a number, whose head has the row `head` and whose body the rows from `first` on.
-fn put_numbers(rules: &mut [u64], number: usize, head: u64, first: usize, numbers: Numbers)
+// The row of the rule with a number, whose heads have the first rows of that number and whose body those from `first` on.
+fn put_numbers(rules: &mut [u64], number: usize, first: usize, numbers: Numbers)
     requires { ⌜ number * rule-stride + rule-stride ≤ length (now rules) ⌝ }
-    ensures { λ _. ⌜ NumbersStored (now (rules .entry)) number head first numbers (now (rules .exit)) ⌝ }
+    ensures { λ _. ⌜ NumbersStored (now (rules .entry)) number first numbers (now (rules .exit)) ⌝ }
 {
     let at = number * RULE;
     let equations = numbers.equations;
     let positives = numbers.positives;
     let header = [
-        head,
+        (number * ROWS) as u64,
+        numbers.heads as u64,
         first as u64,
         numbers.literals as u64,
         numbers.operation,
@@ -65,28 +69,29 @@ fn put_numbers(rules: &mut [u64], number: usize, head: u64, first: usize, number
     put_row(rules, at + POSITIVE_PLACES, &positive);
 }
 
-// The same, where the body has `count` rows: the variables that they bind.
+// The same, where there are `heads` heads, and the body has `count` rows behind those for heads: the variables that they bind.
 pub fn put_rule_row(
     rules: &mut [u64],
     literals: &[u64],
     number: usize,
-    head: u64,
-    first: usize,
+    heads: usize,
     count: usize,
 ) -> Bound
-    requires { ⌜ Storable (now rules) (now literals) number first count ⌝ }
-    ensures { λ r. ⌜ RowStored (now (rules .entry)) (now (literals .entry)) number head first count r (now (rules .exit)) ⌝ }
+    requires { ⌜ Storable (now rules) (now literals) number count ⌝ }
+    ensures { λ r. ⌜ RowStored (now (rules .entry)) (now (literals .entry)) number heads count r (now (rules .exit)) ⌝ }
 {
+    let first = number * ROWS + MOST_HEADS;
     let found = scan_of(literals, first, count);
     let positives = positives_of(literals, first, count);
     let operation = has_operation(literals, first, count);
     let equations = found.equations;
     let numbers = Numbers {
+        heads,
         literals: count,
         operation,
         equations,
         positives,
     };
-    put_numbers(rules, number, head, first, numbers);
+    put_numbers(rules, number, first, numbers);
     found.bound
 }

@@ -6,7 +6,7 @@ use mathlib.Core.Option.{Option, none, some}
 use mathlib.Core.List.{List, [], _∷_}
 use Prim.Native.Nat.{ℕ, _≤_, _<_}
 use native.Mathlib.Omega.{arith}
-use lib.Dec.{eqb, leb}
+use lib.Dec.{eqb, leb, ltb}
 use lib.ListN.{length}
 use borrow.Author.Tests.{leb-true}
 use Rattle.tokens.specs.declared.place.Place.{Place}
@@ -14,7 +14,7 @@ use Rattle.tokens.specs.Sizes.{most-text}
 use Rattle.tokens.specs.Tokens.{part}
 use Rattle.reading.specs.Reading.{Answer as Reading, tree, refused}
 use Rattle.reading.specs.Machine.{answer}
-use Rattle.meaning.specs.Rules.{Bytes, Fact, Rule}
+use Rattle.meaning.specs.Rules.{Bytes, Fact, Rule, disjunctive}
 use Rattle.meaning.specs.Values.{Value, values, in-range}
 use Rattle.meaning.specs.Safety.{when}
 use Rattle.meaning.specs.Matcher.{then}
@@ -43,6 +43,7 @@ use Rattle.program.proofs.Bound.{taken}
 use Rattle.output.specs.Output.{facts, opens, closes, OutputStage}
 use Rattle.promise.specs.Answer.{Answer, Result, result}
 use Rattle.promise.specs.Answer as answers
+use Rattle.promise.specs.Cases.{most-tested, TooManyTested}
 use Rattle.promise.specs.Judged.{settles}
 use Rattle.promise.specs.Answered.{rule-part, Candidate, Check, Answered}
 use Rattle.promise.specs.Refusals.{Unclashing}
@@ -165,18 +166,36 @@ output-taken text I h =
 
 -- ---- both
 
+-- how many facts the candidate has, where some rule has several heads and they are too many to be tested
+unfoldable pub facts-untested : Bytes → Bytes → Option ℕ
+facts-untested the-program the-output = then (program-rules the-program) (λ P. then (output-facts the-output) (λ I. when (disjunctive P && ltb most-tested (length I)) (some (length I))))
+
 module _ (the-program the-output : Bytes) (P : List (Rule Value)) (I : List (Fact Value)) (p : TakenAs the-program P) (c : ReportedAs the-output I) (places : List ℕ) where
   behind-both : (o : Outcome Result) → Candidate the-program the-output places (p .program) (c .line) (c .candidate) o → Check the-program the-output 10 places o
   behind-both o h = goes (p .program) o (p .stage) (goes (facts (c .line) (c .candidate)) o (c .stage) (goes tt o (passed (λ d. d refl)) h))
 
-  -- with room, what the outcome of the meaning says
-  pub answered-with-room : (o : meant.Outcome) → MeansOutcome values in-range P I o → length I ≤ length places → (a : Answer) (left : List ℕ) → record { answer = a; places = left } ≡ result places (settles (rule-part the-program) places o) → Answered the-program the-output 10 places a left
-  answered-with-room o h room a left e =
+  enough : length I ≤ length places → ¬ (length places < length (facts-for (c .candidate)))
+  enough room k = omega (arith, k, room, ap length (c .facts-are))
+
+  -- with room, and no more facts than are tested, what the outcome of the meaning says
+  pub answered-with-room : (o : meant.Outcome) → MeansOutcome values in-range P I o → length I ≤ most-tested → length I ≤ length places → (a : Answer) (left : List ℕ) → record { answer = a; places = left } ≡ result places (settles (rule-part the-program) places o) → Answered the-program the-output 10 places a left
+  answered-with-room o h tested room a left e =
       let settled = settled-is (rule-part the-program) (rules-for (p .program)) (facts-for (c .candidate)) places o (rw (p .rules, c .facts-are) h) in
+      let few : ¬ TooManyTested (rules-for (p .program)) (facts-for (c .candidate)) = λ m. omega (arith, m .many, tested, ap length (c .facts-are)) in
       record {
         outcome = settles (rule-part the-program) places o;
-        checked = behind-both _ (goes tt _ (without (c .distinct)) (goes tt _ (passed (λ k. omega (arith, k, room, ap length (c .facts-are)))) settled));
+        checked = behind-both _ (goes tt _ (without (c .distinct)) (goes tt _ (passed (enough room)) (goes tt _ (passed few) settled)));
         so = e;
+      }
+
+  -- with room, and too many facts beside several heads, 12
+  pub answered-untested : disjunctive P ≡ true → most-tested < length I → length I ≤ length places → Answered the-program the-output 10 places (answers.refused 12 (start-of output)) places
+  unfolding result
+  answered-untested several many room =
+      record {
+        outcome = stop 12 (start-of output);
+        checked = behind-both _ (goes tt _ (without (c .distinct)) (goes tt _ (passed (enough room)) (stops 12 (start-of output) (given (record { several = rw (p .rules) several; many = omega (arith, many, ap length (c .facts-are)) })))));
+        so = refl;
       }
 
   -- without, 9

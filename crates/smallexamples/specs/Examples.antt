@@ -1,5 +1,5 @@
--- Document 01's small examples T1 to T12, and document 02's sites that are numbers, as texts: a program, what the solver printed, and the answer
--- that the paper states.
+-- Document 01's small examples T1 to T12, and document 02's sites that are numbers and either site that may have issued, as texts: a program, what
+-- the solver printed, and the answer that the paper states.
 use Prim.Native.Nat.{ℕ, _≤_, _<_}
 use Prim.Native.String.{String}
 use mathlib.Core.List.{List, [], _∷_, _++_}
@@ -16,7 +16,7 @@ pub record Example : Type 0 where
   -- how many facts the candidate has
   pub facts : ℕ
   pub answer : Answer
-  -- what is written into the places: with ACCEPTED each atom's round, else nothing
+  -- what is written into the places: with ACCEPTED each atom's round where no rule has several heads, else nothing
   pub rounds : List ℕ
 
 -- With the solver's code 10, and whatever the places hold: where there is one for each fact, the check answers so, and leaves the rounds
@@ -73,3 +73,21 @@ ordered =
     ∷ example away "at(u1,7)." 1 (unsatisfied 2 (1 ∷ [])) []
     ∷ example "q(7).q(b).q(\"b\").q(\"b c\").p(X):-q(X),7<X,X<\"b c\"." "q(7). q(b). q(\"b\"). q(\"b c\"). p(b). p(\"b\")." 6 (accepted 6 2) (1 ∷ 1 ∷ 1 ∷ 1 ∷ 2 ∷ 2 ∷ [])
     ∷ []
+
+-- ---- several heads
+
+abbrev pub disjunctions : List Example
+disjunctions =
+    example "a|b." "a." 1 (accepted 1 0) []
+    ∷ example "a|b." "" 0 (unsatisfied 1 []) []
+    ∷ example "a|b." "a. b." 2 (smaller (1 ∷ [])) []
+    ∷ example "a|b." "b. a." 2 (smaller (1 ∷ [])) []
+    ∷ example "a|b.a:-b.b:-a." "a. b." 2 (accepted 2 0) []
+    -- the positions of {a, c, d}, whose number is 7, and not of {b}, whose number is 8
+    ∷ example "a|b.c:-a.d:-a." "a. c. d. b." 4 (smaller (1 ∷ 2 ∷ 3 ∷ [])) []
+    ∷ example "a|a." "a." 1 (accepted 1 0) []
+    ∷ []
+
+-- 21 facts, one more than are tested against every proper subset
+abbrev pub untested : Example
+untested = example "a|b." "a. b. c. d. e. f. g. h. i. j. k. l. m. n. o. p. q. r. s. t. u." 21 (refused 12 (start-of output)) []

@@ -19,7 +19,7 @@ use Rattle.grammar.specs.Spelling.{Mark, inside, spell-arguments, spell-signed,
 use Rattle.grammar.specs.Variables.{Variables as Names, meet-symbol, meet, met}
 use Rattle.grammar.specs.Abstraction.{arguments-for, atom-for}
 use Rattle.grammar.specs.Sizes.{too-big, too-long, too-many, is-underscore, too-many-variables}
-use Rattle.grammar.specs.States.{State, AtomContext, head-behind, literal-in, not-in, atom-wanted, atom-minus, named, opened, closed, atom-mark}
+use Rattle.grammar.specs.States.{State, AtomContext, head-behind, head-after, literal-in, not-in, atom-wanted, atom-minus, named, opened, closed, atom-mark}
 use Rattle.grammar.specs.Moves.{Move, on, free-moves, symbol-number, token-number, when, fire, either, try}
 use Rattle.grammar.specs.Machine.{after-atom, else-wanted, else-minus, else-named, moves, step, finished-atom, finished}
 use Rattle.grammar.proofs.Numbers.{fire-number, fire-by-number, try-number}
@@ -32,7 +32,7 @@ use Rattle.syntax.specs.Ahead.{wants, from}
 use Rattle.syntax.specs.Fills.{Production, going, halted, Fills, read, stopped}
 use Rattle.syntax.specs.Terms.{wordCode}
 use Rattle.syntax.specs.Arguments.{arguments-in}
-use Rattle.syntax.specs.Atoms.{NamedPlace, MinusPlace, AtomPlace, head, negated, atom-context, named-in, minus-in, atom-in}
+use Rattle.syntax.specs.Atoms.{NamedPlace, MinusPlace, AtomPlace, head, also, negated, atom-context, named-in, minus-in, atom-in}
 use Rattle.syntax.proofs.Tokens.{token-by, token-here, part-length, number-here, forward}
 use Rattle.syntax.proofs.Steps.{meets-none, on-kind, over-kind, wrong-token, same-token}
 use Rattle.syntax.proofs.Sizes.{fault-none, fault-many, word-kept, word-four, word-fault}
@@ -47,6 +47,7 @@ not-compared {ground} a s b ms u k e h = go (leb 13 k) refl (leb k 19) refl a s 
   where
     other : (x : Bool) → leb 13 k ≡ x → (y : Bool) → leb k 19 ≡ y → (x ≡ true → y ≡ true → ⊥) → (a : AtomContext ground) (s : Bool) → try (else-named a s b ++ ms) u ≡ try ms u
     other x p y q n (head-behind c) s = refl
+    other x p y q n (head-after u r hs) s = refl
     other x p y q n (not-in c) s = refl
     other x p y q n (literal-in c) true = refl
     other true p true q n (literal-in c) false = absurd (n refl refl)
@@ -122,6 +123,7 @@ module _ (ground : Bool) (text : Bytes) (at : ℕ) (t : TokenRead) (et : t ≡ t
     where
       other : (a : AtomContext ground) → (t .kind ≡ 4 → ⊥) → try-number (else-minus a) (t .kind) (token-here ground text at t et) ≡ none
       other (head-behind p) n = refl
+      other (head-after u p hs) n = refl
       other (literal-in c) n = rw (ne-eqb (t .kind) 4 n)
       other (not-in c) n = refl
 
@@ -143,6 +145,7 @@ module _ (ground : Bool) (text : Bytes) (at : ℕ) (t : TokenRead) (et : t ≡ t
       where
         alone : (a : AtomContext ground) → else-named a true (part text (t .place)) ≡ []
         alone (head-behind p) = refl
+        alone (head-after u p hs) = refl
         alone (literal-in c) = refl
         alone (not-in c) = refl
 
@@ -164,6 +167,7 @@ module _ (ground over : Bool) (text : Bytes) (at : ℕ) (t : TokenRead) (et : t 
   sizes : (h : AtomPlace ground over text at) → too-many ground (mark-of h) ≡ over
   unfolding atom-context atom-mark too-many
   sizes (head p s n e) = s
+  sizes (also u p hs s) = s
   sizes (negated c o) = inv o
 
   module _ (ek : t .kind ≡ 0) (code : ℕ) (ec : code ≡ wordCode (t .place .len) over) where
@@ -180,6 +184,7 @@ module _ (ground over : Bool) (text : Bytes) (at : ℕ) (t : TokenRead) (et : t 
       where
         alone : (h : AtomPlace ground over text at) → else-named (atom-context h) false (part text (t .place)) ≡ []
         alone (head p s n e) = refl
+        alone (also u p hs s) = refl
         alone (negated c o) = refl
 
   module _ (ek : t .kind ≡ 10) where
@@ -203,6 +208,7 @@ module _ (ground over : Bool) (text : Bytes) (at : ℕ) (t : TokenRead) (et : t 
 
         alone : (h : AtomPlace ground over text at) → else-minus (atom-context h) ≡ []
         alone (head p s n e) = refl
+        alone (also u p hs s) = refl
         alone (negated c o′) = refl
 
   pub atom-wrong : {v′ : List Place} {S : Atom (Term Value) → Type 0} → (t .kind ≡ 0 → ⊥) → (t .kind ≡ 10 → ⊥) → Fills (atom-in ground over text at) over text at v (halted 2 (t .place)) v′ S
@@ -211,8 +217,10 @@ module _ (ground over : Bool) (text : Bytes) (at : ℕ) (t : TokenRead) (et : t 
     where
       nothing : (h : AtomPlace ground over text at) → try-number (else-wanted (atom-context h)) (t .kind) (token-here ground text at t et) ≡ none
       nothing (head p s n e) = no-if ground p _ (t .kind) (λ z. n (rw et at z))
+      nothing (also u p hs s) = refl
       nothing (negated c o) = refl
 
       ended : (h : AtomPlace ground over text at) → t .kind ≡ 20 → finished-atom (atom-context h) ≡ none
       ended (head p s n e) z = absurd (e (rw et at z))
+      ended (also u p hs s) z = refl
       ended (negated c o) z = refl

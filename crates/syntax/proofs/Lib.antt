@@ -10,4 +10,5 @@ pub mod Terms
 pub mod Atoms
 pub mod Builtins
 pub mod Literals
+pub mod Heads
 pub mod Programs

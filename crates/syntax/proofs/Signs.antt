@@ -6,7 +6,7 @@ use native.Mathlib.Omega.{arith}
 use lib.Dec.{leb}
 use borrow.Author.Tests.{leb-true, le-leb, lt-leb}
 use Rattle.tokens.specs.declared.kind.Kind.{Kind}
-use Rattle.tokens.specs.declared.kind.Kind.the-variants.{Name, Not, Variable, Anonymous, Number, Open, Close, Comma, Dot, If, Minus, Plus, Times, Equal, Unequal, AlsoUnequal, Less, AtMost, Greater, AtLeast, End, Stray, String}
+use Rattle.tokens.specs.declared.kind.Kind.the-variants.{Name, Not, Variable, Anonymous, Number, Open, Close, Comma, Dot, If, Minus, Plus, Times, Equal, Unequal, AlsoUnequal, Less, AtMost, Greater, AtLeast, End, Stray, String, Bar}
 use Rattle.tokens.specs.Kind.{kindNumber}
 use Rattle.meaning.specs.Domain.{Operation, plus, minus, times}
 use Rattle.meaning.specs.Rules.{Bytes}
@@ -55,6 +55,7 @@ signs-agree AtLeast b l h = refl
 signs-agree End b l h = absurd (omega arith)
 signs-agree Stray b l h = absurd (omega arith)
 signs-agree String b l h = absurd (omega arith)
+signs-agree Bar b l h = absurd (omega arith)
 
 -- an operation meets no variable
 pub no-variable : (vs : Names) (o : Operation) → meet vs (Token.symbol (spell-operation o)) ≡ vs

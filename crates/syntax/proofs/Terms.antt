@@ -207,6 +207,14 @@ module _ (ground over : Bool) (text : Bytes) (at : ℕ) (t : TokenRead) (et : t 
         given : (h : TermContext ground) → try-number (free-moves ground (λ w. on-variable (term-mark h) (λ b′. term-read h (Tree.variable w b′)) ∷ on (term-mark h) underscore (term-read h (Tree.anonymous w)) ∷ [])) (t .kind) (token-here ground text at t et) ≡ none
         given h = rw (free-given ground (λ w. on-variable (term-mark h) (λ b′. term-read h (Tree.variable w b′)) ∷ on (term-mark h) underscore (term-read h (Tree.anonymous w)) ∷ []) (free g), ne-eqb (t .kind) 2 d, ne-eqb (t .kind) 3 e)
 
+  -- `|`, on both
+  pub bar-wrong : {v′ : List Place} {S : Term Value → Type 0} → t .kind ≡ 23 → Fills (term-in ground over) over text at v (halted 2 (t .place)) v′ S
+  bar-wrong {v′} {S} ek = go ground refl
+    where
+      go : (b : Bool) → ground ≡ b → Fills (term-in ground over) over text at v (halted 2 (t .place)) v′ S
+      go true e = ground-wrong (λ z. omega arith) (λ z. omega arith) (λ z. omega arith) (λ z. omega arith) e
+      go false e = free-wrong (λ z. omega arith) (λ z. omega arith) (λ z. omega arith) (λ z. omega arith) e (λ z. omega arith) (λ z. omega arith)
+
 -- ---- a variable, in a program
 
 module _ (over : Bool) (text : Bytes) (at : ℕ) (t : TokenRead) (et : t ≡ tokenRead false text at) (v : List Place) (ek : t .kind ≡ 2) where

@@ -7,13 +7,13 @@ use native.Mathlib.Omega.{arith}
 use lib.ListN.{length, length-take, length-drop}
 use borrow.Author.Tests.{eqb-true, eq-eqb, ne-eqb}
 use Rattle.tokens.specs.declared.kind.Kind.{Kind}
-use Rattle.tokens.specs.declared.kind.Kind.the-variants.{Name, Not, Variable, Anonymous, Number, Open, Close, Comma, Dot, If, Minus, Plus, Times, Equal, Unequal, AlsoUnequal, Less, AtMost, Greater, AtLeast, End, Stray, String}
+use Rattle.tokens.specs.declared.kind.Kind.the-variants.{Name, Not, Variable, Anonymous, Number, Open, Close, Comma, Dot, If, Minus, Plus, Times, Equal, Unequal, AlsoUnequal, Less, AtMost, Greater, AtLeast, End, Stray, String, Bar}
 use Rattle.tokens.specs.declared.Token.{Token as TextToken}
 use Rattle.tokens.specs.Kind.{kindNumber, isEnd}
 use Rattle.tokens.specs.Token.{nextToken}
 use Rattle.tokens.specs.Tokens.{part}
 use Rattle.tokens.specs.Spelling.{kindOf}
-use Rattle.tokens.proofs.KindNumber.{kindAt, kind-at-number, at-most-string}
+use Rattle.tokens.proofs.KindNumber.{kindAt, kind-at-number, at-most-bar}
 use Rattle.tokens.proofs.Next.{inside, end-place, next-kind, onward}
 use Rattle.tokens.proofs.Counting.{past-countable as countable-past}
 use Rattle.tokens.proofs.OneLine.{next-stands, past-stands}
@@ -55,6 +55,7 @@ of-kind AtLeast b h = refl
 of-kind End b h = absurd (h refl)
 of-kind Stray b h = refl
 of-kind String b h = refl
+of-kind Bar b h = refl
 
 -- the token that the reader of tokens gives is the one at the place
 pub as-read : (ground : Bool) (text : Bytes) (at : ℕ) (t : TextToken) → t ≡ nextToken (not ground) text at → (k : ℕ) → k ≡ kindNumber (t .kind) → record { kind = k; place = t .place } ≡ tokenRead ground text at
@@ -71,9 +72,9 @@ module _ (ground : Bool) (text : Bytes) (at : ℕ) (t : TokenRead) (et : t ≡ t
   pub place-within : t .place .start + t .place .len ≤ length text
   place-within = rw et (inside (not ground) text at)
 
-  -- no kind has a greater number than a string
-  pub kind-at-most : t .kind ≤ 22
-  kind-at-most = rw et (at-most-string (next .kind))
+  -- no kind has a greater number than `|`
+  pub kind-at-most : t .kind ≤ 23
+  kind-at-most = rw et (at-most-bar (next .kind))
 
   -- and stands there by its line and column
   pub place-stands : Stands text (t .place)

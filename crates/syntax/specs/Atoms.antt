@@ -5,11 +5,11 @@ use mathlib.Core.List.{[]}
 use Prim.Native.Nat.{ℕ, suc, _≤_}
 use Rattle.meaning.specs.Rules.{Bytes, Term, Atom}
 use Rattle.meaning.specs.Values.{Value}
-use Rattle.grammar.specs.Trees.{count, Arguments as Tree, Atom as AtomTree, atom, Program}
-use Rattle.grammar.specs.Spelling.{inside, rule, spell-arguments, spell-atom}
+use Rattle.grammar.specs.Trees.{Free, count, Arguments as Tree, Atom as AtomTree, atom, Heads, head-count, Program}
+use Rattle.grammar.specs.Spelling.{Mark, inside, rule, spell-arguments, spell-atom}
 use Rattle.grammar.specs.Abstraction.{atom-for}
 use Rattle.grammar.specs.Sizes.{too-many}
-use Rattle.grammar.specs.States.{BodyContext, AtomContext, head-behind, not-in, atom-wanted, atom-minus, named, closed}
+use Rattle.grammar.specs.States.{BodyContext, AtomContext, head-behind, head-after, not-in, atom-wanted, atom-minus, named, closed}
 use Rattle.grammar.specs.Machine.{else-minus, else-named}
 use Rattle.syntax.specs.Text.{tokenRead}
 use Rattle.syntax.specs.Ahead.{wants}
@@ -25,13 +25,16 @@ pub record MinusPlace (ground : Bool) (text : Bytes) (at : ℕ) : Type 0 where
   pub context : AtomContext ground
   pub alone : tokenRead ground text at .kind ≡ 4 → else-minus context ≡ []
 
--- the head of a rule that is one too many, or not, where neither `:-` nor the end stands; or behind `not`
+-- the first head of a rule that is one too many, or not, where neither `:-` nor the end stands; a head behind others, one too many or not; or
+-- behind `not`
 pub data AtomPlace (ground over : Bool) (text : Bytes) (at : ℕ) : Type 0 where
   head : (p : Program ground) → too-many ground (rule (suc (count p))) ≡ over → (tokenRead ground text at .kind ≡ 9 → ⊥) → (tokenRead ground text at .kind ≡ 20 → ⊥) → AtomPlace ground over text at
+  also : Free ground → Program ground → (hs : Heads ground) → too-many ground (Mark.head (suc (head-count hs))) ≡ over → AtomPlace ground over text at
   negated : BodyContext ground → over ≡ false → AtomPlace ground over text at
 
 unfoldable pub atom-context : {ground over : Bool} {text : Bytes} {at : ℕ} → AtomPlace ground over text at → AtomContext ground
 atom-context (head p s n e) = head-behind p
+atom-context (also u p hs s) = head-after u p hs
 atom-context (negated c o) = not-in c
 
 abbrev pub named-in : (ground : Bool) → Bytes → ℕ → Bool → Bytes → Production ground

@@ -9,4 +9,5 @@ pub mod Atoms
 pub mod Builtins
 pub mod Literals
 pub mod Rules
+pub mod Heads
 pub mod Programs

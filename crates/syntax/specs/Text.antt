@@ -4,7 +4,7 @@ use mathlib.Core.List.{List, map}
 use Prim.Native.Nat.{ℕ, _+_}
 use lib.ListN.{length, getD}
 use Rattle.tokens.specs.declared.kind.Kind.{Kind}
-use Rattle.tokens.specs.declared.kind.Kind.the-variants.{Name, Not, Variable, Anonymous, Number, Open, Close, Comma, Dot, If, Minus, Plus, Times, Equal, Unequal, AlsoUnequal, Less, AtMost, Greater, AtLeast, End, Stray, String}
+use Rattle.tokens.specs.declared.kind.Kind.the-variants.{Name, Not, Variable, Anonymous, Number, Open, Close, Comma, Dot, If, Minus, Plus, Times, Equal, Unequal, AlsoUnequal, Less, AtMost, Greater, AtLeast, End, Stray, String, Bar}
 use Rattle.tokens.specs.declared.place.Place.{Place}
 use Rattle.tokens.specs.declared.Token.{Token as TextToken}
 use Rattle.tokens.specs.Kind.{kindNumber}
@@ -16,7 +16,7 @@ use Rattle.tokens.specs.Place.{place-from}
 use Rattle.reading.specs.Reading.{Placed}
 use Rattle.meaning.specs.Domain.{equal, unequal, less, at-most, greater, at-least}
 use Rattle.meaning.specs.Rules.{Bytes}
-use Rattle.grammar.specs.Tokens.{sign, <>, Symbol, underscore, minus, opening, closing, comma, dot, :-, plus, times, Token, name, variable, string, number, comparison, symbol, stray}
+use Rattle.grammar.specs.Tokens.{sign, <>, Symbol, underscore, minus, opening, closing, comma, dot, :-, plus, times, bar, Token, name, variable, string, number, comparison, symbol, stray}
 use Rattle.syntax.specs.declared.token.TokenRead.{TokenRead}
 
 -- the token that bytes of a kind are; the end is none, and stands here for a stray byte
@@ -44,6 +44,7 @@ token-of AtLeast b = comparison (sign at-least)
 token-of End b = stray 0
 token-of Stray b = stray (getD b 0 0)
 token-of String b = string (between b)
+token-of Bar b = symbol bar
 
 abbrev pub placed-token : Bytes → TextToken → Placed Place Token
 placed-token text t = record { token = token-of (t .kind) (part text (t .place)); place = t .place }

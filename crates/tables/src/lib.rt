@@ -40,28 +40,27 @@ pub const HEAD: u64 = 3;
 // A built-in without an operation.
 pub const NO_OPERATION: u64 = 3;
 
-// The rows of a rule's literals: its head's, and those of a body of 16 literals.
-pub const ROWS: usize = 17;
+// The rows of a rule's literals: those of 4 heads, and those of a body of 16 literals.
+pub const ROWS: usize = 20;
 
-// The numbers of a rule: its head's literal, first body literal, how many, whether it has an operation, how many equations bind, how many
-// literals are positive, and 16 places for each of the last two.
+// The numbers of a rule: its first head, how many, its first body literal, how many, whether it has an operation, how many equations bind, how
+// many literals are positive, and 16 places for each of the last two.
 pub const RULE: usize = 40;
 
-pub const HEAD_LITERAL: usize = 0;
+pub const FIRST_HEAD: usize = 0;
 
-pub const FIRST_LITERAL: usize = 1;
+pub const HEADS: usize = 1;
 
-pub const LITERALS: usize = 2;
+pub const FIRST_LITERAL: usize = 2;
 
-pub const HAS_OPERATION: usize = 3;
+pub const LITERALS: usize = 3;
 
-pub const EQUATIONS: usize = 4;
+pub const HAS_OPERATION: usize = 4;
 
-pub const POSITIVES: usize = 5;
+pub const EQUATIONS: usize = 5;
 
-pub const EQUATION_PLACES: usize = 6;
+pub const POSITIVES: usize = 6;
 
-pub const POSITIVE_PLACES: usize = 22;
+pub const EQUATION_PLACES: usize = 7;
 
-// A rule without a head.
-pub const NO_LITERAL: u64 = 65_535;
+pub const POSITIVE_PLACES: usize = 23;

@@ -225,6 +225,10 @@ module _ (program output text : Bytes) (names variables : List ℕ) (k : Cursor)
     by-one : {C : List Bytes → Type 0} {names′ : List ℕ} → (t .kind ≡ 20 → ⊥) → Codes program output names 1 C names′ → Codes program output names (next-of t - k .at .start) C names′
     by-one n h = codes-wider _ (let l = forward (k .ground) text (k .at .start) t et n in omega arith) h
 
+    -- `|` is no term
+    pub bar-wrong : t .kind ≡ 23 → r ≡ stoppedTerm 2 (t .place) (k .met) → ReadsTerm program output text names variables k r names variables
+    bar-wrong ek er = rw er (laws.bar-wrong (k .ground) (k .over) text (k .at .start) t et (met-before variables k) ek)
+
     module _ (ek : t .kind ≡ 0) (code : ℕ) (ec : code ≡ wordCode (t .place .len) (k .over)) where
       pub name-stops : (names′ : List ℕ) → (code ≡ 0 → ⊥) → r ≡ stoppedTerm code (t .place) (k .met) → ReadsTerm program output text names variables k r names′ variables
       name-stops names′ n er = rw er (laws.name-stops (k .ground) (k .over) text (k .at .start) t et (met-before variables k) ek code ec n)

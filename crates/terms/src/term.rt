@@ -21,6 +21,7 @@ use syntax::word::WRONG;
 use syntax::word::string_code;
 use syntax::word::word_code;
 use tokens::kind::ANONYMOUS;
+use tokens::kind::BAR;
 use tokens::kind::MINUS;
 use tokens::kind::NAME;
 use tokens::kind::NUMBER;
@@ -218,8 +219,11 @@ pub fn term_at<'a>(
     if token.kind == NUMBER {
         return number_term(text, token, false, cursor.over, cursor.met);
     }
-    // A string has the greatest number of all kinds; a test for it alone would turn these tests into a table of jumps.
+    // Only a string and `|` have a greater number than a stray byte; a test for a string alone would turn these tests into a table of jumps.
     if STRAY < token.kind {
+        if token.kind == BAR {
+            return stopped(WRONG, token.place, cursor.met);
+        }
         return string_term(program, output, text, names, cursor, token);
     }
     nameless_term(text, variables, cursor, token)

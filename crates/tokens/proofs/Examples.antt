@@ -4,7 +4,7 @@ use mathlib.Core.Path.{_≡_, refl}
 use mathlib.Core.Bool.{Bool, true, false}
 use mathlib.Core.List.{List, [], _∷_}
 use Rattle.tokens.specs.declared.kind.Kind.{Kind}
-use Rattle.tokens.specs.declared.kind.Kind.the-variants.{Name, Not, Variable, Anonymous, Number, If, Minus, Times, Unequal, AlsoUnequal, AtMost, AtLeast, Stray, String}
+use Rattle.tokens.specs.declared.kind.Kind.the-variants.{Name, Not, Variable, Anonymous, Number, If, Minus, Times, Equal, Unequal, AlsoUnequal, Less, AtMost, AtLeast, Stray, String, Bar}
 use Rattle.tokens.specs.declared.Token.{Token}
 use Rattle.tokens.specs.Class.{classOf}
 use Rattle.tokens.specs.Run.{isBlank, prefixLen}
@@ -49,6 +49,9 @@ examples =
     record { program = true; text = 60 ∷ 61 ∷ 60 ∷ 62 ∷ 33 ∷ 61 ∷ 62 ∷ 61 ∷ 58 ∷ 45 ∷ []; tokens = placed AtMost 0 2 ∷ placed AlsoUnequal 2 2 ∷ placed Unequal 4 2 ∷ placed AtLeast 6 2 ∷ placed If 8 2 ∷ [] } ∷
     -- `:--1` is `:-`, `-` and `1`
     record { program = true; text = 58 ∷ 45 ∷ 45 ∷ 49 ∷ []; tokens = placed If 0 2 ∷ placed Minus 2 1 ∷ placed Number 3 1 ∷ [] } ∷
+    -- `a||:-|=`: each `|` is a token of its own, and so it is on a facts line
+    record { program = true; text = 97 ∷ 124 ∷ 124 ∷ 58 ∷ 45 ∷ 124 ∷ 61 ∷ []; tokens = placed Name 0 1 ∷ placed Bar 1 1 ∷ placed Bar 2 1 ∷ placed If 3 2 ∷ placed Bar 5 1 ∷ placed Equal 6 1 ∷ [] } ∷
+    record { program = false; text = 60 ∷ 124 ∷ 45 ∷ []; tokens = placed Less 0 1 ∷ placed Bar 1 1 ∷ placed Minus 2 1 ∷ [] } ∷
     -- a comment ends with its line, and another with the text
     record { program = true; text = 97 ∷ 37 ∷ 98 ∷ 10 ∷ 99 ∷ 37 ∷ []; tokens = placed Name 0 1 ∷ token-on 2 1 Name 4 1 ∷ [] } ∷
     -- `%*` is no comment, and `%%*` is one
@@ -81,4 +84,4 @@ Right (x ∷ xs) = (tokensFrom (x .program) (x .text) 0 ≡ x .tokens) × Right 
 
 pub right : Right examples
 unfolding classOf isBlank prefixLen startsComment gap longer closing singleKind pairKind nameKind markAt stringAt otherAt tokenAt nextToken tokensUpTo tokensFrom newlines since line-of column-of
-right = (refl, (refl, (refl, (refl, (refl, (refl, (refl, (refl, (refl, (refl, (refl, (refl, (refl, (refl, (refl, (refl, (refl, (refl, (refl, (refl, (refl, (refl, (refl, (refl, tt))))))))))))))))))))))))
+right = (refl, (refl, (refl, (refl, (refl, (refl, (refl, (refl, (refl, (refl, (refl, (refl, (refl, (refl, (refl, (refl, (refl, (refl, (refl, (refl, (refl, (refl, (refl, (refl, (refl, (refl, tt))))))))))))))))))))))))))

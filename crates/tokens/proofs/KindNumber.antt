@@ -7,12 +7,12 @@ use mathlib.Core.List.{[], _∷_}
 use lib.ListN.{getD}
 use borrow.Author.Tests.{eqb-true}
 use Rattle.tokens.specs.declared.kind.Kind.{Kind}
-use Rattle.tokens.specs.declared.kind.Kind.the-variants.{Name, Not, Variable, Anonymous, Number, Open, Close, Comma, Dot, If, Minus, Plus, Times, Equal, Unequal, AlsoUnequal, Less, AtMost, Greater, AtLeast, End, Stray, String}
+use Rattle.tokens.specs.declared.kind.Kind.the-variants.{Name, Not, Variable, Anonymous, Number, Open, Close, Comma, Dot, If, Minus, Plus, Times, Equal, Unequal, AlsoUnequal, Less, AtMost, Greater, AtLeast, End, Stray, String, Bar}
 use Rattle.tokens.specs.Kind.{kindNumber, isEnd, isStray}
 
 -- the kind of a number
 abbrev pub kindAt : ℕ → Kind
-kindAt n = getD (Name ∷ Not ∷ Variable ∷ Anonymous ∷ Number ∷ Open ∷ Close ∷ Comma ∷ Dot ∷ If ∷ Minus ∷ Plus ∷ Times ∷ Equal ∷ Unequal ∷ AlsoUnequal ∷ Less ∷ AtMost ∷ Greater ∷ AtLeast ∷ End ∷ Stray ∷ String ∷ []) n Stray
+kindAt n = getD (Name ∷ Not ∷ Variable ∷ Anonymous ∷ Number ∷ Open ∷ Close ∷ Comma ∷ Dot ∷ If ∷ Minus ∷ Plus ∷ Times ∷ Equal ∷ Unequal ∷ AlsoUnequal ∷ Less ∷ AtMost ∷ Greater ∷ AtLeast ∷ End ∷ Stray ∷ String ∷ Bar ∷ []) n Stray
 
 pub kind-at-number : (kind : Kind) → kindAt (kindNumber kind) ≡ kind
 kind-at-number Name = refl
@@ -38,6 +38,7 @@ kind-at-number AtLeast = refl
 kind-at-number End = refl
 kind-at-number Stray = refl
 kind-at-number String = refl
+kind-at-number Bar = refl
 
 pub kind-by-number : (kind : Kind) (n : ℕ) → kindNumber kind ≡ n → kind ≡ kindAt n
 kind-by-number kind n e = sym (kind-at-number kind) ∙ ap kindAt e
@@ -51,28 +52,29 @@ is-end kind e = kind-by-number kind 20 (eqb-true (kindNumber kind) 20 e)
 pub is-stray : (kind : Kind) → isStray kind ≡ true → kind ≡ Stray
 is-stray kind e = kind-by-number kind 21 (eqb-true (kindNumber kind) 21 e)
 
--- a string has the greatest
-pub at-most-string : (kind : Kind) → kindNumber kind ≤ 22
-at-most-string Name = omega arith
-at-most-string Not = omega arith
-at-most-string Variable = omega arith
-at-most-string Anonymous = omega arith
-at-most-string Number = omega arith
-at-most-string Open = omega arith
-at-most-string Close = omega arith
-at-most-string Comma = omega arith
-at-most-string Dot = omega arith
-at-most-string If = omega arith
-at-most-string Minus = omega arith
-at-most-string Plus = omega arith
-at-most-string Times = omega arith
-at-most-string Equal = omega arith
-at-most-string Unequal = omega arith
-at-most-string AlsoUnequal = omega arith
-at-most-string Less = omega arith
-at-most-string AtMost = omega arith
-at-most-string Greater = omega arith
-at-most-string AtLeast = omega arith
-at-most-string End = omega arith
-at-most-string Stray = omega arith
-at-most-string String = omega arith
+-- `|` has the greatest
+pub at-most-bar : (kind : Kind) → kindNumber kind ≤ 23
+at-most-bar Name = omega arith
+at-most-bar Not = omega arith
+at-most-bar Variable = omega arith
+at-most-bar Anonymous = omega arith
+at-most-bar Number = omega arith
+at-most-bar Open = omega arith
+at-most-bar Close = omega arith
+at-most-bar Comma = omega arith
+at-most-bar Dot = omega arith
+at-most-bar If = omega arith
+at-most-bar Minus = omega arith
+at-most-bar Plus = omega arith
+at-most-bar Times = omega arith
+at-most-bar Equal = omega arith
+at-most-bar Unequal = omega arith
+at-most-bar AlsoUnequal = omega arith
+at-most-bar Less = omega arith
+at-most-bar AtMost = omega arith
+at-most-bar Greater = omega arith
+at-most-bar AtLeast = omega arith
+at-most-bar End = omega arith
+at-most-bar Stray = omega arith
+at-most-bar String = omega arith
+at-most-bar Bar = omega arith

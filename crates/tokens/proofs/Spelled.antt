@@ -12,7 +12,7 @@ use Rattle.tokens.specs.declared.class.Class.the-variants.{Lower, Upper,
 use Rattle.tokens.specs.declared.run.Run.{Run}
 use Rattle.tokens.specs.declared.run.Run.the-variants.{Word, Digits}
 use Rattle.tokens.specs.declared.kind.Kind.{Kind}
-use Rattle.tokens.specs.declared.kind.Kind.the-variants.{Name, Not, Variable, Anonymous, Number, Open, Close, Comma, Dot, If, Minus, Plus, Times, Equal, Unequal, AlsoUnequal, Less, AtMost, Greater, AtLeast, End, Stray, String}
+use Rattle.tokens.specs.declared.kind.Kind.the-variants.{Name, Not, Variable, Anonymous, Number, Open, Close, Comma, Dot, If, Minus, Plus, Times, Equal, Unequal, AlsoUnequal, Less, AtMost, Greater, AtLeast, End, Stray, String, Bar}
 use Rattle.tokens.specs.Class.{classOf}
 use Rattle.tokens.specs.Run.{goesOn}
 use Rattle.tokens.specs.Strings.{quote, Quotable, quoted, closing}
@@ -60,7 +60,8 @@ single-right b =
     (one-byte b 61 Equal _ refl
     (one-byte b 60 Less _ refl
     (one-byte b 62 Greater _ refl
-    (stray-right (b ∷ []))))))))))))
+    (one-byte b 124 Bar _ refl
+    (stray-right (b ∷ [])))))))))))))
 
 pair-right : (b c : ℕ) → Right (pairKind b c) (b ∷ c ∷ [])
 unfolding pairKind
@@ -220,3 +221,4 @@ kind-of-spelled AtLeast bytes s = rw s
 kind-of-spelled End bytes s = absurd s
 kind-of-spelled Stray bytes s = absurd s
 kind-of-spelled String bytes s = rw (s .in-quotes) (kind-of-string (s .inner) (s .quotable))
+kind-of-spelled Bar bytes s = rw s

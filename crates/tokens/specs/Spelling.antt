@@ -7,7 +7,7 @@ use lib.ListN.{length, getD}
 use Rattle.tokens.specs.declared.class.Class.{Class}
 use Rattle.tokens.specs.declared.class.Class.the-variants.{Lower, Upper, Digit, Underscore, Other}
 use Rattle.tokens.specs.declared.kind.Kind.{Kind}
-use Rattle.tokens.specs.declared.kind.Kind.the-variants.{Name, Not, Variable, Anonymous, Number, Open, Close, Comma, Dot, If, Minus, Plus, Times, Equal, Unequal, AlsoUnequal, Less, AtMost, Greater, AtLeast, Stray, String}
+use Rattle.tokens.specs.declared.kind.Kind.the-variants.{Name, Not, Variable, Anonymous, Number, Open, Close, Comma, Dot, If, Minus, Plus, Times, Equal, Unequal, AlsoUnequal, Less, AtMost, Greater, AtLeast, Stray, String, Bar}
 use Rattle.tokens.specs.declared.run.Run.the-variants.{Word, Digits}
 use Rattle.tokens.specs.Class.{classOf}
 use Rattle.tokens.specs.Run.{goesOn}
@@ -15,7 +15,7 @@ use Rattle.tokens.specs.Strings.{quote, closing}
 
 -- ---- marks
 
--- of one byte: ( ) , . - + * = < >
+-- of one byte: ( ) , . - + * = < > |
 unfoldable pub singleKind : ℕ → Kind
 singleKind b =
     cond (eqb b 40) Open
@@ -28,7 +28,8 @@ singleKind b =
     (cond (eqb b 61) Equal
     (cond (eqb b 60) Less
     (cond (eqb b 62) Greater
-    Stray)))))))))
+    (cond (eqb b 124) Bar
+    Stray))))))))))
 
 -- of two bytes: :- != <= >= <>
 unfoldable pub pairKind : ℕ → ℕ → Kind

@@ -9,7 +9,7 @@ use Rattle.tokens.specs.declared.class.Class.the-variants.{Lower, Upper,
 use Rattle.tokens.specs.declared.run.Run.{Run}
 use Rattle.tokens.specs.declared.run.Run.the-variants.{Word, Digits}
 use Rattle.tokens.specs.declared.kind.Kind.{Kind}
-use Rattle.tokens.specs.declared.kind.Kind.the-variants.{Name, Not, Variable, Anonymous, Number, Open, Close, Comma, Dot, If, Minus, Plus, Times, Equal, Unequal, AlsoUnequal, Less, AtMost, Greater, AtLeast, End, Stray, String}
+use Rattle.tokens.specs.declared.kind.Kind.the-variants.{Name, Not, Variable, Anonymous, Number, Open, Close, Comma, Dot, If, Minus, Plus, Times, Equal, Unequal, AlsoUnequal, Less, AtMost, Greater, AtLeast, End, Stray, String, Bar}
 use Rattle.tokens.specs.Class.{classOf}
 use Rattle.tokens.specs.Run.{goesOn}
 use Rattle.tokens.specs.Spelling.{every}
@@ -40,6 +40,7 @@ spelling AtLeast = 62 ∷ 61 ∷ []
 spelling End = []
 spelling Stray = []
 spelling String = []
+spelling Bar = 124 ∷ []
 
 -- bytes of which the first has this class, and all others go on this run
 pub record Starts (class : Class) (run : Run) (bytes : List ℕ) : Type 0 where
@@ -72,3 +73,4 @@ Spells AtLeast bytes = bytes ≡ spelling AtLeast
 Spells End bytes = ⊥
 Spells Stray bytes = ⊥
 Spells String bytes = IsString bytes
+Spells Bar bytes = bytes ≡ spelling Bar

@@ -48,10 +48,12 @@ pub enum Kind {
     Stray,
     // from a quote to a quote
     String,
+    // `|`
+    Bar,
 }
 
-// The number of each kind, by which a caller branches. The operations stand together, and so do the comparisons; no kind has a greater number
-// than a string.
+// The number of each kind, by which a caller branches. The operations stand together, and so do the comparisons; only a string and `|` have a
+// greater number than a stray byte.
 pub const NAME: u8 = 0;
 
 pub const NOT: u8 = 1;
@@ -98,6 +100,8 @@ pub const STRAY: u8 = 21;
 
 pub const STRING: u8 = 22;
 
+pub const BAR: u8 = 23;
+
 // The number of a kind.
 pub fn kind_number(kind: Kind) -> u8
     ensures { λ r. ⌜ r ≡ kindNumber kind ⌝ }
@@ -126,6 +130,7 @@ pub fn kind_number(kind: Kind) -> u8
         Kind::End => END,
         Kind::Stray => STRAY,
         Kind::String => STRING,
+        Kind::Bar => BAR,
     }
 }
 
@@ -144,6 +149,7 @@ pub(crate) fn single_kind(byte: u8) -> Kind
         b'=' => Kind::Equal,
         b'<' => Kind::Less,
         b'>' => Kind::Greater,
+        b'|' => Kind::Bar,
         _ => Kind::Stray,
     }
 }

@@ -6,6 +6,9 @@ pub const MOST_TEXT: usize = 65_536;
 // Rules of a program.
 pub const MOST_RULES: usize = 256;
 
+// Head atoms of a rule.
+pub const MOST_HEADS: usize = 4;
+
 // Literals in a body.
 pub const MOST_LITERALS: usize = 16;
 
@@ -20,6 +23,9 @@ pub const MOST_VARIABLES: usize = 16;
 
 // Facts of a candidate.
 pub const MOST_FACTS: usize = 1_024;
+
+// Facts of a candidate beside a rule with several heads: it is tested against every proper subset.
+pub const MOST_TESTED_FACTS: usize = 20;
 
 // The greatest number; the least is as far below zero.
 pub const MOST_NUMBER: u64 = 1_000_000_000;

@@ -24,9 +24,17 @@ fn round(n: u16) {
     item(n as u64);
 }
 
-// The first places, as many as there are atoms.
-fn each(places: &[u16], atoms: usize) {
-    let count = least(atoms, places.len());
+// How many places an acceptance writes: one for each atom, and none where no rounds are given.
+fn rounds_written(answer: Answer) -> usize {
+    if answer.rounds == 0 {
+        return 0;
+    }
+    answer.atoms
+}
+
+// The first places, as many as are written.
+fn each(places: &[u16], written: usize) {
+    let count = least(written, places.len());
     let mut at = 0;
     while at < count {
         round(places[at]);
@@ -61,13 +69,13 @@ fn part(part: Part) {
     }
 }
 
-fn accepted(answer: Answer, places: &[u16]) {
+fn accepted(answer: Answer, places: &[u16], written: usize) {
     say(b" atoms ");
     number(answer.atoms as u64);
     say(b" rounds ");
     number(answer.rounds as u64);
     say(b" each");
-    each(places, answer.atoms);
+    each(places, written);
 }
 
 fn unsatisfied(answer: Answer) {
@@ -95,8 +103,9 @@ fn values(answer: Answer, places: &[u16]) -> usize {
     let kind = answer.kind;
     match kind {
         Kind::Accepted => {
-            accepted(answer, places);
-            answer.atoms
+            let written = rounds_written(answer);
+            accepted(answer, places, written);
+            written
         }
         Kind::Unsatisfied => {
             unsatisfied(answer);

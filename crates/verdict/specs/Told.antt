@@ -9,7 +9,7 @@ use Rattle.grammar.specs.Sizes.{most-literals}
 use Rattle.rule_places.specs.Sentences.{sentence}
 use Rattle.judge.specs.declared.Judgement.{Judgement}
 use Rattle.judge.specs.declared.Kind as judged
-use Rattle.judge.specs.declared.Kind.the-variants.{OutOfRange, Unsatisfied, Accepted, Smaller}
+use Rattle.judge.specs.declared.Kind.the-variants.{OutOfRange, Unsatisfied, Accepted, Minimal, Smaller}
 use Rattle.fields.specs.declared.answer.Text.the-variants.{Program}
 use Rattle.fields.specs.declared.answer.Answer.{Answer}
 use Rattle.fields.specs.Values.{refused, accepted, unsatisfied, smaller}
@@ -35,4 +35,5 @@ pub data Tells (text : Bytes) (j : Judgement) (n : ℕ) : judged.Kind → Answer
   leaves-range : Tells text j n OutOfRange (refused 8 Program (sentence false text (j .rule)))
   is-broken : (ps : List ℕ) → FromOne (positions-of j) (j .positions) ps → Tells text j n Unsatisfied (unsatisfied (j .rule + 1) (positions-of j) ps)
   is-accepted : Tells text j n Accepted (accepted n (j .rounds))
+  is-minimal : Tells text j n Minimal (accepted n 0)
   is-smaller : length (j .set .words) ≡ 16 → ((k : ℕ) → getD (j .set .words) k 0 < 2 ^ 64) → Tells text j n Smaller (smaller (j .set))

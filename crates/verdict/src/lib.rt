@@ -51,6 +51,7 @@ pub fn verdict(program: &[u8], judgement: Judgement, atoms: usize) -> Answer
             unsatisfied(judgement.rule + 1, count, from_one(positions, count))
         }
         Kind::Accepted => accepted(atoms, judgement.rounds as usize),
+        Kind::Minimal => accepted(atoms, 0),
         Kind::Smaller => smaller(kept),
     }
 }

@@ -8,7 +8,7 @@ use crate::rules::{Atom, Fact, Name, Rule, Term, Value};
 pub fn for_rules(random: &mut Random, rules: &[Rule]) -> Vec<Fact> {
     let seeds = if random.chance(25) { seeds(random, rules) } else { Vec::new() };
     let seeded = !seeds.is_empty();
-    let grounded = solve::ground_from(rules, seeds);
+    let grounded = solve::ground_from(rules, seeds).with_heads_chosen(random);
     let model = match seeded {
         true => grounded.some_supported_set(random),
         false => grounded.some_answer_set(random),

@@ -1,5 +1,6 @@
 //! Texts at the sizes' ends: one below, at, and one past each.
 
+use super::heads;
 use super::strings::{self, bytes_of};
 use super::style;
 use crate::random::Random;
@@ -14,7 +15,7 @@ pub struct Sized {
 
 /// A text pair around one of the sizes.
 pub fn sized(random: &mut Random) -> Sized {
-    match random.below(34) {
+    match random.below(44) {
         0..=2 => some_program(random, words),
         3 | 4 => facts_only(long_fact(random)),
         5..=7 => some_program(random, arguments),
@@ -27,7 +28,11 @@ pub fn sized(random: &mut Random) -> Sized {
         21..=23 => padded(random),
         24..=27 => some_program(random, long_strings),
         28 | 29 => facts_only(string_fact(random)),
-        _ => misplaced_string(random),
+        30..=33 => misplaced_string(random),
+        34 | 35 => some_program(random, several_heads),
+        36..=39 => some_program(random, heads::bars),
+        40 => facts_only(heads::bars_on_facts(random)),
+        _ => many_for_subsets(random),
     }
 }
 
@@ -200,6 +205,46 @@ fn rules(random: &mut Random) -> String {
     let mut text = "a.".repeat(count - 1);
     text.push_str(last);
     text
+}
+
+/// A rule with about 4 head atoms, the last of them of any kind.
+fn several_heads(random: &mut Random) -> String {
+    let mut heads: Vec<&str> = (1..about(random, 4)).map(|_| random.pick(&["a", "-b", "p(1)", "p()", "a"])).collect();
+    heads.push(random.pick(&["a", "-a", "p(X)", "p(1,2)", "1", "-1", "X", "not a", "-", "", "\"a\"", "-p(_)", "|"]));
+    let body = random.pick(&["", ":-a", ":-a,not b", ":-p(X)", ":-", ":-a|b"]);
+    format!("{}{body}.", heads.join("|"))
+}
+
+/// Rules for about 20 facts p(1), p(2), .. with `#` for their number; the last has one head, so that they may be more.
+const MANY_SUBSETS: &[&str] = &[
+    "a|b:-c.",
+    "a|a.",
+    "p(1)|p(2).",
+    "p(X)|q(X):-p(X).",
+    "p(X)|-p(Y):-p(X),p(Y),X>Y+9.",
+    "a|b.p(Y):-p(X),Y=X+1,Y<#.",
+    "a|b:-p(1),p(2),not p(3).:-p(7).",
+    "a|b:-p(1).p(Y)|p(X):-p(X),Y=X+1000000000.",
+    "p(Y)|q(Y):-p(X),Y=X+1,Y<#.p(X):-q(X).",
+    "p(#)|p(#).:-p(#).",
+    "a.",
+];
+
+/// About 20 facts beside several heads: some given by the program, the others derived from them or from nothing.
+fn many_for_subsets(random: &mut Random) -> Sized {
+    let count = about(random, 20);
+    let given = if random.chance(60) { count } else { random.below(count) };
+    let mut program: String = (1..=given).map(|fact| format!("p({fact}).")).collect();
+    let rules = random.pick(MANY_SUBSETS).replace('#', &count.to_string());
+    program.insert_str(if random.chance(50) { 0 } else { program.len() }, &rules);
+    let mut facts: Vec<String> = (1..=count).map(|fact| format!("p({fact}).")).collect();
+    if random.chance(30) {
+        facts[count - 1] = random.pick(&["a.", "b.", "-p(1).", "q(1)."]).to_string();
+    }
+    if random.chance(30) {
+        random.shuffle(&mut facts);
+    }
+    Sized { program: program.into_bytes(), facts: facts.concat().into_bytes(), output_length: None }
 }
 
 fn many_facts(random: &mut Random) -> Sized {

@@ -17,7 +17,7 @@ const COMMENTS: &[&str] =
 pub const ENDS: &[&str] = &["", "", "\n", "\n\n", "\t\n ", " % end", "%", "\n%\n", "% \u{e9}\r\n", "\n\t% \u{2192}"];
 /// Between two rules that stand on lines of their own.
 const RULE_ENDS: &[&str] = &["\n", "\n", "\n", "\n\n", " % a:-b.\n", "\n% \u{e9}\n", "\t%\r\n\n\n"];
-/// Behind `:-` and behind a comma, where a body goes over several lines.
+/// Behind `:-`, a bar and a comma, where a rule goes over several lines.
 const INDENTS: &[&str] = &["\n\t", "\n    ", " % c\n\t", " "];
 
 /// A rule from its head and body, either perhaps empty.
@@ -45,7 +45,7 @@ fn laid_out(random: &mut Random, text: &[u8]) -> Vec<u8> {
     for token in tokens(text, Language::Program) {
         let behind = match token.kind {
             Kind::Dot => random.pick(RULE_ENDS),
-            Kind::If | Kind::Comma if random.chance(broken) => random.pick(INDENTS),
+            Kind::If | Kind::Or | Kind::Comma if random.chance(broken) => random.pick(INDENTS),
             _ => continue,
         };
         written.extend_from_slice(&text[from..token.end]);

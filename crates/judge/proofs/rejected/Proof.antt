@@ -1,27 +1,19 @@
 -- `rejected` meets its contract: the search for a broken instance decides. Assumes nothing.
-use mathlib.Core.Path.{_≡_, refl, ap}
 use mathlib.Core.Logic.{inl, inr}
 use native.Mathlib.Omega.{arith}
 use borrow.Author.Needs.{needs}
-use Rattle.judge.specs.declared.Judgement.{Judgement}
 use Rattle.judge.proofs.Verdicts.{shows-broken, shows-set}
 use Rattle.judge.proofs.rejected.Statement.{statement}
 use Rattle.judge.proofs.rejected.Tie as tie
 
+broken-at-requires : tie.Need-broken-at-requires
+broken-at-requires c κs = let t = c .before .before .before .before .before .before .before .pre .0 .tables in (t .long, omega (arith, t .few, c .if1 .taken))
+
 returns : tie.Need-returns
-returns c =
-    let blank = c .before in
-    let if1 = blank .before in
-    let first-stop = if1 .before .before .before in
-    let start = first-stop .before .before .before .before in
-    λ names k. inl (shows-broken _ _ _ _ _ _ (first-stop .first-stop .ensures) names k (start .pre .1) (if1 .if1 .taken) _ (ap (λ (j : Judgement). j .kind) (blank .blank .ensures)) refl (c .positives .ensures) refl)
+returns c = λ names k. inl (shows-broken _ _ _ _ _ _ (c .before .before .before .before .first-stop .ensures) names k (c .before .before .before .before .before .before .before .before .pre .1) (c .before .if1 .taken) _ (c .broken-at .ensures))
 
 returns-2 : tie.Need-returns-2
-returns-2 c =
-    let if1 = c .before in
-    let first-stop = if1 .before .before .before in
-    let start = first-stop .before .before .before .before in
-    λ names k. inr (shows-set _ _ _ _ _ _ (first-stop .first-stop .ensures) names k (start .pre .1) (if1 .if1 .left) _ _ (ap (λ (j : Judgement). j .kind) (c .blank2 .ensures)) refl)
+returns-2 c = λ names k. inr (shows-set _ _ _ _ _ _ (c .before .before .before .before .first-stop .ensures) names k (c .before .before .before .before .before .before .before .before .pre .1) (omega (arith, c .before .if1 .left)) _ _ (c .smaller-set .ensures))
 
 pub rejected-spec : {M : Type 1} → statement M
 rejected-spec =
@@ -29,8 +21,7 @@ rejected-spec =
     (tie.spec
     (λ c. search needs)
     (λ c κs. search needs)
-    (λ c κs. search needs)
-    (λ c κs. search needs)
+    broken-at-requires
     returns
     (λ c κs. search needs)
     returns-2)

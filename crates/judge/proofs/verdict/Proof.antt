@@ -12,7 +12,7 @@ returns c =
     let if1 = c .before in
     let rounds = if1 .before .before .before .before in
     let start = rounds .before .before .before .before .before .before in
-    judged-rejected (start .args .ranks .now) (start .args .store .now) (start .args .scan) (start .args .table .now) _ (rounds .rounds .result) (rounds .rounds .ensures) (start .pre .0 .tables .fact-table .few) _ (c .rejected .ensures) _ (if1 .if1 .taken)
+    judged-rejected (start .args .ranks .now) (start .args .store .now) (start .args .scan) (start .args .table .now) _ (rounds .rounds .result) (rounds .rounds .ensures) (start .pre .0 .tables .fact-table .few) (start .pre .4) _ (c .rejected .ensures) _ (if1 .if1 .taken)
 
 returns-2 : tie.Need-returns-2
 returns-2 c =
@@ -21,7 +21,7 @@ returns-2 c =
     let if1 = size .before in
     let rounds = if1 .before .before .before .before in
     let start = rounds .before .before .before .before .before .before in
-    judged-short (start .args .ranks .now) (start .args .store .now) (start .args .scan) (start .args .table .now) _ (rounds .rounds .result) (rounds .rounds .ensures) (start .pre .0 .tables .fact-table .few) _ (c .rejected2 .ensures) _ (if1 .if1 .left) (omega (arith, size .size .ensures, if2 .if2 .taken))
+    judged-short (start .args .ranks .now) (start .args .store .now) (start .args .scan) (start .args .table .now) _ (rounds .rounds .result) (rounds .rounds .ensures) (start .pre .0 .tables .fact-table .few) (start .pre .4) _ (c .rejected2 .ensures) _ (if1 .if1 .left) (omega (arith, size .size .ensures, if2 .if2 .taken))
 
 returns-3 : tie.Need-returns-3
 returns-3 c =
@@ -31,7 +31,7 @@ returns-3 c =
     let if1 = size .before in
     let rounds = if1 .before .before .before .before in
     let start = rounds .before .before .before .before .before .before in
-    judged-whole (start .args .ranks .now) (start .args .store .now) (start .args .scan .count) (start .args .scan .total) (start .args .table .now) _ (rounds .rounds .result) (rounds .rounds .ensures) (start .pre .0 .tables .fact-table .few) (if1 .if1 .left) (omega (arith, size .size .ensures, if2 .if2 .left)) _ _ (copy .copy .ensures) (start .pre .2) (start .pre .3) _ (ap (λ (j : Judgement). j .kind) (c .blank .ensures)) refl
+    judged-whole (start .args .ranks .now) (start .args .store .now) (start .args .scan .count) (start .args .scan .total) (start .args .table .now) _ (rounds .rounds .result) (rounds .rounds .ensures) (start .pre .0 .tables .fact-table .few) (start .pre .4) (if1 .if1 .left) (omega (arith, size .size .ensures, if2 .if2 .left)) _ _ (copy .copy .ensures) (start .pre .2) (start .pre .3) _ (ap (λ (j : Judgement). j .kind) (c .blank .ensures)) refl
 
 pub verdict-spec : {M : Type 1} → statement M
 verdict-spec =

@@ -3,6 +3,7 @@ use mathlib.Core.Bool.{false≢true}
 use Rattle.meaning.specs.Safety.{equations}
 use Rattle.meaning.specs.Matcher.{complete}
 use Rattle.codes.specs.Domains.{codes, code-in-range}
+use Rattle.tables.specs.Layout.{equations-column}
 use Rattle.tables.specs.Rows.{rule-column, rule-at}
 use Rattle.tables.proofs.Strides.{part-is}
 use Rattle.overflow.proofs.Operations.{none-leaves}
@@ -20,7 +21,7 @@ returns c = let a = c .before .before .before .before .args in let rule = rule-a
 equations-stay-requires : tie.Need-equations-stay-requires
 equations-stay-requires c κs =
     let start = c .before .before .before .before .before .before .before in
-    let a = start .args in (rw (part-is (a .r * 40 + 6) (rule-column (a .rules .now) (a .r) 4) (a .rules .now)) (start .pre .0 .equation), omega arith, start-modest (a .most) (start .pre .1))
+    let a = start .args in (rw (part-is (a .r * 40 + 7) (rule-column (a .rules .now) (a .r) equations-column) (a .rules .now)) (start .pre .0 .equation), omega arith, start-modest (a .most) (start .pre .1))
 
 returns-2 : tie.Need-returns-2
 returns-2 c = λ z. absurd (false≢true z)

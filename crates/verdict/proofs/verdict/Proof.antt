@@ -5,7 +5,7 @@ use borrow.Author.Needs.{needs}
 use lib.ListN.{getD}
 use mir.Val.{Fits}
 use mir.Syntax.{w64}
-use Rattle.verdict.proofs.Telling.{tells-range, tells-broken, tells-accepted, tells-smaller}
+use Rattle.verdict.proofs.Telling.{tells-range, tells-broken, tells-accepted, tells-minimal, tells-smaller}
 use Rattle.verdict.proofs.verdict.Statement.{statement}
 use Rattle.verdict.proofs.verdict.Tie as tie
 
@@ -33,12 +33,15 @@ returns-2 c =
 returns-3 : tie.Need-returns-3
 returns-3 c = tells-accepted _ _ _ _ (c .before .before .enum-told3 .given .1) _ (c .accepted .ensures)
 
+returns-4 : tie.Need-returns-4
+returns-4 c = tells-minimal _ _ _ _ (c .before .enum-told4 .given .1) _ (c .accepted2 .ensures)
+
 -- the words of the set are of 64 bits
 bits-fit : (c : tie.After-smaller) (k : ℕ) → Fits w64 (getD (c .before .before .before .before .before .args .judgement .set .words) k 0)
 bits-fit c k = search needs
 
-returns-4 : tie.Need-returns-4
-returns-4 c = tells-smaller _ _ _ _ (c .before .enum-told4 .given .1) (search needs) (λ k. bits-fit c k .fits) _ (c .smaller .ensures)
+returns-5 : tie.Need-returns-5
+returns-5 c = tells-smaller _ _ _ _ (c .before .enum-told5 .given .1) (search needs) (λ k. bits-fit c k .fits) _ (c .smaller .ensures)
 
 pub verdict-spec : {M : Type 1} → statement M
 verdict-spec =
@@ -57,7 +60,10 @@ verdict-spec =
     (λ c κs. search needs)
     (λ c. search needs)
     (λ c κs. search needs)
+    (λ c. search needs)
+    (λ c κs. search needs)
     returns
     returns-2
     returns-3
-    returns-4)
+    returns-4
+    returns-5)

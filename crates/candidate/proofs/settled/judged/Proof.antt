@@ -7,7 +7,9 @@ use Rattle.candidate.proofs.settled.judged.Statement.{statement}
 use Rattle.candidate.proofs.settled.judged.Tie as tie
 
 judge-requires : tie.Need-judge-requires
-judge-requires c κs = (tables _ _ _ _ _ _ (c .before .before .before .before .before .pre .settling), c .before .before .before .before .before .pre .settling .room)
+judge-requires c κs =
+    let s = c .before .before .before .before .before .pre .settling in
+    (tables _ _ _ _ _ _ s, s .room, s .several, s .tested)
 
 verdict-requires : tie.Need-verdict-requires
 verdict-requires c κs =

@@ -46,7 +46,7 @@ add-put-literal : tie.Need-add-put-literal Inv-loop μ-loop
 add-put-literal c =
     let loop = c .before .before .before .before .before .before .before .before .before .before .before .before in
     let start = loop .before .before .before .before .before .before .before in
-    omega (arith, start .pre .low, loop .loop .inv .few)
+    omega (arith, start .pre .long, loop .loop .inv .few)
 
 put-literal-requires : tie.Need-put-literal-requires Inv-loop μ-loop
 put-literal-requires c κs =

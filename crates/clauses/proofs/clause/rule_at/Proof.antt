@@ -14,16 +14,16 @@ returns c =
     let start = token-at .before .before .before .before .before .before in
     rule-ended (start .args .program .now) (start .args .output .now) (start .args .names .now) (start .args .variables .now) (start .args .literals .now) (start .args .cursor) (start .args .number) (start .pre) _ (token-at .token-at .ensures) _ _ (if1 .if1 .taken) (c .ended .ensures)
 
-with-head-requires : tie.Need-with-head-requires
-with-head-requires c κs =
+with-heads-requires : tie.Need-with-heads-requires
+with-heads-requires c κs =
     let if2 = c .before .before .before in
     let if1 = if2 .before .before in
     let token-at = if1 .before .before in
     let start = token-at .before .before .before .before .before .before in
-    record { rule = start .pre; no-if = rw (token-at .token-at .ensures) at (if2 .if2 .taken); no-end = rw (token-at .token-at .ensures) at (if1 .if1 .left) }
+    record { rule = start .pre; is-token = token-at .token-at .ensures; no-if = if2 .if2 .taken; no-end = if1 .if1 .left }
 
 returns-2 : tie.Need-returns-2
-returns-2 c = c .before .before .before .before .before .before .with-head .ensures
+returns-2 c = c .before .before .before .before .before .before .with-heads .ensures
 
 returns-3 : tie.Need-returns-3
 returns-3 c =
@@ -36,12 +36,12 @@ returns-3 c =
 mul-first : tie.Need-mul-first
 mul-first c =
     let start = c .before .before .before .before .before .before .before .before .before .before .before in
-    omega (arith, start .pre .small)
+    omega (arith, start .good, start .pre .long (c .if3 .left))
 
 add-first : tie.Need-add-first
 add-first c =
     let start = c .before .before .before .before .before .before .before .before .before .before .before in
-    omega (arith, start .pre .small)
+    omega (arith, start .good, start .pre .long (c .if3 .left))
 
 past-requires : tie.Need-past-requires
 past-requires c κs =
@@ -77,7 +77,7 @@ rule-at-spec =
     (λ c κs. search needs)
     (λ c κs. search needs)
     returns
-    with-head-requires
+    with-heads-requires
     (λ c. search needs)
     (λ c. search needs)
     (λ c. search needs)

@@ -1,5 +1,4 @@
 -- `put::put_rule` meets its contract. Assumes nothing.
-use native.Mathlib.Omega.{arith}
 use Rattle.program.proofs.Puts.{put-stops, put-ends, row-storable, few-numbered, put-goes}
 use borrow.Author.Needs.{needs}
 use Rattle.program.proofs.put.put_rule.Statement.{statement}
@@ -24,16 +23,6 @@ returns-2 c =
     let rule-at = if1 .before .before .before .before .before .before .before .before in
     let start = rule-at .before .before .before .before .before .before .before .before .before .before .before in
     put-ends (start .args .program .now) (start .args .output .now) (start .args .names .now) (start .args .variables .now) (start .args .rules .now) (start .args .literals .now) (start .args .start) (start .pre) (rule-at .rule-at .result) _ _ _ (rule-at .rule-at .ensures) (if1 .if1 .left) _ (if2 .if2 .taken) (c .none-put2 .ensures)
-
-mul-first : tie.Need-mul-first
-mul-first c =
-    let start = c .before .before .before .before .before .before .before .before .before .before .before .before .before .before .before .before .before .before .before .before in
-    let s = start .pre .ready .small in omega arith
-
-add-first : tie.Need-add-first
-add-first c =
-    let start = c .before .before .before .before .before .before .before .before .before .before .before .before .before .before .before .before .before .before .before .before in
-    let s = start .pre .ready .small in omega arith
 
 put-rule-row-requires : tie.Need-put-rule-row-requires
 put-rule-row-requires c κs =
@@ -71,8 +60,6 @@ put-rule-spec =
     (λ c. search needs)
     (λ c. search needs)
     returns-2
-    mul-first
-    add-first
     put-rule-row-requires
     first-unbound-requires
     (λ c. search needs)

@@ -1,4 +1,4 @@
--- `rule_row::put_numbers` meets its contract: six numbers, and the rows of the equations and of the positive literals behind them.
+-- `rule_row::put_numbers` meets its contract: seven numbers, and the rows of the equations and of the positive literals behind them.
 -- Assumes nothing.
 use mathlib.Core.Path.{_≡_}
 use native.Mathlib.Omega.{arith}
@@ -20,12 +20,13 @@ returns c =
     let a = c .before .before .before .before .before .before .before .before .before .before .before .before .before .before .before .before .before .before .before .before .args in
     let one : length (a .numbers .equations .rows) ≡ most-literals = search needs in
     let two : length (a .numbers .positives .rows) ≡ most-literals = search needs in
-    numbers-stored (a .rules .now) (a .number) (a .head) (a .first) (a .numbers) (c .before .before .before .before .before .before .before .before .before .before .before .before .before .before .before .before .before .before .before .before .pre) _ (c .before .before .before .before .before .before .before .before .before .before .before .before .before .before .put-row .ensures) _ (c .before .before .before .before .before .before .before .before .put-row2 .ensures) one _ (c .before .before .put-row3 .ensures) two
+    numbers-stored (a .rules .now) (a .number) (a .first) (a .numbers) (c .before .before .before .before .before .before .before .before .before .before .before .before .before .before .before .before .before .before .before .before .pre) _ (c .before .before .before .before .before .before .before .before .before .before .before .before .before .before .put-row .ensures) _ (c .before .before .before .before .before .before .before .before .put-row2 .ensures) one _ (c .before .before .put-row3 .ensures) two
 
 pub put-numbers-spec : {M : Type 1} → statement M
 put-numbers-spec =
     tie.close
     (tie.spec
+    (λ c. search needs)
     (λ c. search needs)
     (λ c. search needs)
     (λ c κs. search needs)

@@ -13,12 +13,14 @@ returns c =
     let scan-of = positives-of .before in
     let start = scan-of .before .before .before in
     let a = start .args in
-    row-stored (a .literals .now) (a .number) (a .head) (a .first) (a .count) _ (scan-of .scan-of .ensures) _ refl (has-operation .has-operation .ensures) refl (positives-of .positives-of .ensures) _ _ (put-numbers .put-numbers .ensures)
+    row-stored (a .literals .now) (a .number) (a .count) _ (scan-of .scan-of .ensures) _ refl (has-operation .has-operation .ensures) refl (positives-of .positives-of .ensures) _ _ (put-numbers .put-numbers .ensures)
 
 pub put-rule-row-spec : {M : Type 1} → statement M
 put-rule-row-spec =
     tie.close
     (tie.spec
+    (λ c. search needs)
+    (λ c. search needs)
     (λ c κs. search needs)
     (λ c κs. search needs)
     (λ c κs. search needs)

@@ -2,7 +2,7 @@
 use native.Mathlib.Omega.{arith}
 use Rattle.tokens.proofs.PlaceTables.{storable-countable}
 use Rattle.syntax.proofs.Tokens.{kind-at-most}
-use Rattle.terms.proofs.TermLaws.{puttable, number-goes, nameless}
+use Rattle.terms.proofs.TermLaws.{puttable, number-goes, nameless, bar-wrong}
 use borrow.Author.Needs.{needs}
 use Rattle.terms.proofs.term.term_at.Statement.{statement}
 use Rattle.terms.proofs.term.term_at.Tie as tie
@@ -27,15 +27,20 @@ returns-2 c =
     let start = c .before .before .before .before .before .before .before .before .before .before in
     nameless (start .args .program .now) (start .args .output .now) (start .args .text .now) (start .args .names .now) (start .args .variables .now) (start .args .cursor) (start .pre .ready) _ _ (number-goes (start .args .text .now) (start .args .variables .now) (start .args .cursor) (start .pre .ready .few) _ (start .pre .is-token) _ (c .before .if2 .taken) (c .number-term .ensures))
 
-string-term-requires : tie.Need-string-term-requires
-string-term-requires c κs =
-    let start = c .before .before .before .before .before .before .before .before .before .before .before .before in
-    let most = kind-at-most (start .args .cursor .ground) (start .args .text .now) (start .args .cursor .at .start) _ (start .pre .is-token) in
-    record { variables = start .args .variables .now; ready = start .pre; is-kind = omega (arith, most, c .before .if3 .taken) }
-
 returns-3 : tie.Need-returns-3
 returns-3 c =
-    let start = c .before .before .before .before .before .before .before .before .before .before .before .before .before .before .before in
+    let start = c .before .before .before .before .before .before .before .before .before .before .before .before .before .before in
+    bar-wrong (start .args .program .now) (start .args .output .now) (start .args .text .now) (start .args .names .now) (start .args .variables .now) (start .args .cursor) (start .pre .ready) _ _ (start .pre .is-token) (c .before .if4 .taken) (c .stopped .ensures)
+
+string-term-requires : tie.Need-string-term-requires
+string-term-requires c κs =
+    let start = c .before .before .before .before .before .before .before .before .before .before .before .before .before .before in
+    let most = kind-at-most (start .args .cursor .ground) (start .args .text .now) (start .args .cursor .at .start) _ (start .pre .is-token) in
+    record { variables = start .args .variables .now; ready = start .pre; is-kind = omega (arith, most, c .before .before .before .if3 .taken, c .before .if4 .left) }
+
+returns-4 : tie.Need-returns-4
+returns-4 c =
+    let start = c .before .before .before .before .before .before .before .before .before .before .before .before .before .before .before .before .before in
     c .before .before .string-term .ensures (start .args .variables .now) (start .pre .ready)
 
 nameless-term-requires : tie.Need-nameless-term-requires
@@ -43,8 +48,8 @@ nameless-term-requires c κs =
     let start = c .before .before .before .before .before .before .before .before .before .before .before .before in
     record { puttable = puttable (start .args .program .now) (start .args .output .now) (start .args .text .now) (start .args .names .now) (start .args .variables .now) (start .args .cursor) (start .pre .ready) _ (start .pre .is-token); is-token = start .pre .is-token; no-name = c .before .before .before .before .before .if1 .left; no-string = λ e. omega (arith, e, c .before .if3 .left); no-number = c .before .before .before .if2 .left }
 
-returns-4 : tie.Need-returns-4
-returns-4 c =
+returns-5 : tie.Need-returns-5
+returns-5 c =
     let start = c .before .before .before .before .before .before .before .before .before .before .before .before .before .before .before in
     nameless (start .args .program .now) (start .args .output .now) (start .args .text .now) (start .args .names .now) (start .args .variables .now) (start .args .cursor) (start .pre .ready) _ _ (c .before .before .nameless-term .ensures)
 
@@ -57,9 +62,11 @@ term-at-spec =
     returns
     number-term-requires
     returns-2
+    (λ c κs. search needs)
+    returns-3
     string-term-requires
     (λ c. search needs)
-    returns-3
+    returns-4
     nameless-term-requires
     (λ c. search needs)
-    returns-4)
+    returns-5)

@@ -1,4 +1,4 @@
--- `kind::single_kind` meets its contract: at each leaf of the match the byte is known, or is none of the ten.
+-- `kind::single_kind` meets its contract: at each leaf of the match the byte is known, or is none of the eleven.
 -- Assumes nothing.
 use mathlib.Core.Path.{sym, ap}
 use borrow.Author.Tests.{ne-eqb}
@@ -48,9 +48,13 @@ returns-10 c = sym (ap singleKind (c .match .keys10))
 
 returns-11 : tie.Need-returns-11
 unfolding singleKind
-returns-11 c =
+returns-11 c = sym (ap singleKind (c .match .keys11))
+
+returns-12 : tie.Need-returns-12
+unfolding singleKind
+returns-12 c =
     let r = c .match .rest in
-    simp (ne-eqb _ _ (r .0 .0 .0 .0 .0 .0 .0 .0 .0 .1), ne-eqb _ _ (r .0 .0 .0 .0 .0 .0 .0 .0 .1), ne-eqb _ _ (r .0 .0 .0 .0 .0 .0 .0 .1), ne-eqb _ _ (r .0 .0 .0 .0 .0 .0 .1), ne-eqb _ _ (r .0 .0 .0 .0 .0 .1), ne-eqb _ _ (r .0 .0 .0 .0 .1), ne-eqb _ _ (r .0 .0 .0 .1), ne-eqb _ _ (r .0 .0 .1), ne-eqb _ _ (r .0 .1), ne-eqb _ _ (r .1))
+    simp (ne-eqb _ _ (r .0 .0 .0 .0 .0 .0 .0 .0 .0 .0 .1), ne-eqb _ _ (r .0 .0 .0 .0 .0 .0 .0 .0 .0 .1), ne-eqb _ _ (r .0 .0 .0 .0 .0 .0 .0 .0 .1), ne-eqb _ _ (r .0 .0 .0 .0 .0 .0 .0 .1), ne-eqb _ _ (r .0 .0 .0 .0 .0 .0 .1), ne-eqb _ _ (r .0 .0 .0 .0 .0 .1), ne-eqb _ _ (r .0 .0 .0 .0 .1), ne-eqb _ _ (r .0 .0 .0 .1), ne-eqb _ _ (r .0 .0 .1), ne-eqb _ _ (r .0 .1), ne-eqb _ _ (r .1))
 
 pub single-kind-spec : {M : Type 1} → statement M
 single-kind-spec =
@@ -66,4 +70,5 @@ single-kind-spec =
     returns-8
     returns-9
     returns-10
-    returns-11)
+    returns-11
+    returns-12)

@@ -5,10 +5,10 @@ use Rattle.trials.proofs.answer_line.each.Statement.{statement}
 use Rattle.trials.proofs.answer_line.each.Tie as tie
 
 abbrev Inv-loop : tie.InvT-loop
-Inv-loop places atoms count at₀ at = Unit {0}
+Inv-loop places written count at₀ at = Unit {0}
 
 abbrev μ-loop : tie.MeasureT-loop
-μ-loop places atoms count at₀ at = count - at
+μ-loop places written count at₀ at = count - at
 
 pub each-spec : {M : Type 1} → statement M
 each-spec =

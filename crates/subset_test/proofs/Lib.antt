@@ -1,0 +1,9 @@
+pub mod Masks
+pub mod Refuting
+pub mod HeadMasks
+pub mod Leaves
+pub mod Going
+pub mod Clauses
+pub mod Least
+pub mod KeptSets
+pub mod Tested

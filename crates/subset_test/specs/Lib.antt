@@ -1,0 +1,4 @@
+-- In the order to read them in.
+pub mod Refuted
+pub mod Stands
+pub mod Smaller

@@ -1,0 +1,3 @@
+-- In the order to read them in.
+pub mod Table
+pub mod Words
