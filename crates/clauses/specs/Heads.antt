@@ -11,6 +11,8 @@ use Rattle.grammar.specs.Sizes.{most-heads}
 use Rattle.tables.specs.Layout.{literal-stride, rule-rows}
 use Rattle.tables.specs.Stored.{Kept}
 use Rattle.tables.specs.Coded.{HeadsCoded}
+use Rattle.syntax.specs.declared.token.Progress.{Progress}
+use Rattle.syntax.specs.declared.token.TokenRead.{TokenRead}
 use Rattle.syntax.specs.Text.{tokenRead}
 use Rattle.syntax.specs.Fills.{Fills}
 use Rattle.syntax.specs.Heads.{heads-in}
@@ -39,6 +41,10 @@ pub record HeadsStand (program output : Bytes) (names literals : List ℕ) (at n
   pub few : count ≤ most-heads
   pub kept : Kept (number * rule-rows * literal-stride) ((number * rule-rows + most-heads) * literal-stride) literals literals′
   pub stands : Codes program output names (next - at) (λ ns. HeadsCoded ns literals′ (number * rule-rows) hs) names′
+
+-- what has been read so far: as many heads, and the token behind them
+abbrev pub soFar : Progress → TokenRead → ℕ → ℕ → HeadsRead
+soFar progress token count met = record { progress = progress; token = token; count = count; met = met }
 
 -- heads, and the token behind them, which is no `|`; or a refusal
 pub record ReadsHeads (program output : Bytes) (names variables literals : List ℕ) (k : Cursor) (number : ℕ) (r : HeadsRead) (names′ variables′ literals′ : List ℕ) : Type 0 where

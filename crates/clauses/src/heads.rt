@@ -1,5 +1,6 @@
 // The heads of a rule, atoms with `|` between them, to their rows.
-ghost use Rattle.clauses.specs.Heads.{ReadyHeads, ReadsHeads};
+ghost use mathlib.Core.Path.{_≡_};
+ghost use Rattle.clauses.specs.Heads.{soFar, ReadyHeads, ReadsHeads};
 use crate::body::put_literal;
 use atoms::atom::atom_at;
 use rows::literal::atom_row;
@@ -28,6 +29,17 @@ pub struct HeadsRead {
     pub met: usize,
 }
 
+fn so_far(progress: Progress, token: TokenRead, count: usize, met: usize) -> HeadsRead
+    ensures { λ r. ⌜ r ≡ soFar progress token count met ⌝ }
+{
+    HeadsRead {
+        progress,
+        token,
+        count,
+        met,
+    }
+}
+
 // The heads of the rule whose first token stands at the cursor: they have the first rows of its number.
 pub fn heads_at<'a>(
     program: &'a [u8],
@@ -48,24 +60,14 @@ pub fn heads_at<'a>(
         let read = atom_at(program, output, program, names, variables, here, first);
         let progress = read.progress;
         if progress.code != 0 {
-            return HeadsRead {
-                progress,
-                token: first,
-                count,
-                met: read.met,
-            };
+            return so_far(progress, first, count, read.met);
         }
         let codes = read.codes;
         put_literal(literals, start.number * ROWS + count, atom_row(HEAD, codes));
         count += 1;
         let token = token_at(program, progress.place, false);
         if token.kind != BAR {
-            return HeadsRead {
-                progress,
-                token,
-                count,
-                met: read.met,
-            };
+            return so_far(progress, token, count, read.met);
         }
         here = onward(cursor, past(token.place), MOST_HEADS <= count, read.met);
         first = token_at(program, here.at, false);

@@ -158,28 +158,19 @@ pub fn judge(
 {
     let most = magnitudes::largest(store::facts(store), count);
     let mut positions = [0u64; 16];
-    let over = first_stop(
-        store,
-        ranks,
-        &mut positions,
-        Scan {
-            count,
-            total,
-            range: true,
-            most,
-        },
-    );
+    let mut scan = Scan {
+        count,
+        total,
+        range: true,
+        most,
+    };
+    let over = first_stop(store, ranks, &mut positions, scan);
     if over < total {
         let mut out = blank(Kind::OutOfRange);
         out.rule = over;
         return out;
     }
-    let scan = Scan {
-        count,
-        total,
-        range: false,
-        most,
-    };
+    scan.range = false;
     if several {
         return tested(store, ranks, scan);
     }

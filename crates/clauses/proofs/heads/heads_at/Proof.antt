@@ -29,21 +29,21 @@ atom-at-requires c κs =
     ready-head (start .args .program .now) (start .args .output .now) (start .args .program .now) _ _ _ (loop .loop .inv .ready .ready) false (loop .loop .inv .ready .in-program) _ (loop .loop .inv .is-token)
 
 same-length : tie.Need-same-length Inv-loop μ-loop
-same-length c = search (needs, c .before .before .before .before .before .before .before .before .before .before .loop .inv .long, c .before .before .before .before .before .before .before .before .before .before .loop .inv .names-long, c .before .before .before .before .before .before .before .before .before .before .loop .inv .literals-long)
+same-length c = search (needs, c .before .before .before .before .before .before .before .before .before .before .before .loop .inv .long, c .before .before .before .before .before .before .before .before .before .before .before .loop .inv .names-long, c .before .before .before .before .before .before .before .before .before .before .before .loop .inv .literals-long)
 
 same-length-2 : tie.Need-same-length-2 Inv-loop μ-loop
-same-length-2 c = search (needs, c .before .before .before .before .before .before .before .before .before .before .loop .inv .long, c .before .before .before .before .before .before .before .before .before .before .loop .inv .names-long, c .before .before .before .before .before .before .before .before .before .before .loop .inv .literals-long)
+same-length-2 c = search (needs, c .before .before .before .before .before .before .before .before .before .before .before .loop .inv .long, c .before .before .before .before .before .before .before .before .before .before .before .loop .inv .names-long, c .before .before .before .before .before .before .before .before .before .before .before .loop .inv .literals-long)
 
 same-length-3 : tie.Need-same-length-3 Inv-loop μ-loop
-same-length-3 c = search (needs, c .before .before .before .before .before .before .before .before .before .before .loop .inv .long, c .before .before .before .before .before .before .before .before .before .before .loop .inv .names-long, c .before .before .before .before .before .before .before .before .before .before .loop .inv .literals-long)
+same-length-3 c = search (needs, c .before .before .before .before .before .before .before .before .before .before .before .loop .inv .long, c .before .before .before .before .before .before .before .before .before .before .before .loop .inv .names-long, c .before .before .before .before .before .before .before .before .before .before .before .loop .inv .literals-long)
 
 returns : tie.Need-returns Inv-loop μ-loop
 returns c =
-    let if1 = c in
+    let if1 = c .before in
     let atom-at = if1 .before .before .before .before .before .before .before in
     let loop = atom-at .before .before .before in
     let start = loop .before .before .before .before .before .before .before in
-    head-stops (start .args .program .now) (start .args .output .now) (start .args .names .now) (start .args .variables .now) (start .args .literals .now) (start .args .cursor) (start .args .start .number) (start .pre .rule) _ _ _ _ _ _ (loop .loop .inv) _ _ _ (atom-at .atom-at .ensures) _ _ _ _ (if1 .if1 .taken)
+    rw (c .so-far .ensures) (head-stops (start .args .program .now) (start .args .output .now) (start .args .names .now) (start .args .variables .now) (start .args .literals .now) (start .args .cursor) (start .args .start .number) (start .pre .rule) _ _ _ _ _ _ (loop .loop .inv) _ _ _ (atom-at .atom-at .ensures) _ _ _ _ (if1 .if1 .taken))
 
 mul-put-literal : tie.Need-mul-put-literal Inv-loop μ-loop
 mul-put-literal c =
@@ -86,17 +86,17 @@ token-at-requires c κs =
     head-end (start .args .program .now) (start .args .output .now) (start .args .names .now) (start .args .variables .now) (start .args .literals .now) (start .args .cursor) (start .args .start .number) (start .pre .rule) _ _ _ _ _ _ (loop .loop .inv) _ _ _ (atom-at .atom-at .ensures) (if1 .if1 .left)
 
 same-length-4 : tie.Need-same-length-4 Inv-loop μ-loop
-same-length-4 c = search (needs, c .before .before .before .before .before .before .before .before .before .before .before .before .before .before .before .before .before .before .before .before .loop .inv .long, c .before .before .before .before .before .before .before .before .before .before .before .before .before .before .before .before .before .before .before .before .loop .inv .names-long, c .before .before .before .before .before .before .before .before .before .before .before .before .before .before .before .before .before .before .before .before .loop .inv .literals-long)
+same-length-4 c = search (needs, c .before .before .before .before .before .before .before .before .before .before .before .before .before .before .before .before .before .before .before .before .before .loop .inv .names-long, c .before .before .before .before .before .before .before .before .before .before .before .before .before .before .before .before .slice-known4 .given, c .before .before .before .before .before .before .before .before .before .before .before .before .before .before .before .before .before .names .given, c .before .before .before .before .before .before .before .before .before .before .before .before .before .before .before .before .before .before .atom-at)
 
 same-length-5 : tie.Need-same-length-5 Inv-loop μ-loop
-same-length-5 c = search (needs, c .before .before .before .before .before .before .before .before .before .before .before .before .before .before .before .before .before .before .before .before .loop .inv .long, c .before .before .before .before .before .before .before .before .before .before .before .before .before .before .before .before .before .before .before .before .loop .inv .names-long, c .before .before .before .before .before .before .before .before .before .before .before .before .before .before .before .before .before .before .before .before .loop .inv .literals-long)
+same-length-5 c = search (needs, c .before .before .before .before .before .before .before .before .before .before .before .before .before .before .before .before .before .before .before .before .before .loop .inv .long, c .before .before .before .before .before .before .before .before .before .before .before .before .before .before .slice-known5 .given, c .before .before .before .before .before .before .before .before .before .before .before .before .before .before .before .variables .given, c .before .before .before .before .before .before .before .before .before .before .before .before .before .before .before .before .before .before .atom-at)
 
 same-length-6 : tie.Need-same-length-6 Inv-loop μ-loop
-same-length-6 c = search (needs, c .before .before .before .before .before .before .before .before .before .before .before .before .before .before .before .before .before .before .before .before .loop .inv .long, c .before .before .before .before .before .before .before .before .before .before .before .before .before .before .before .before .before .before .before .before .loop .inv .names-long, c .before .before .before .before .before .before .before .before .before .before .before .before .before .before .before .before .before .before .before .before .loop .inv .literals-long)
+same-length-6 c = search (needs, c .before .before .before .before .before .before .before .before .before .before .before .before .before .before .before .before .before .before .before .before .before .loop .inv .long, c .before .before .before .before .before .before .before .before .before .before .before .before .before .before .before .before .before .before .before .before .before .loop .inv .names-long, c .before .before .before .before .before .before .before .before .before .before .before .before .before .before .before .before .before .before .before .before .before .loop .inv .literals-long)
 
 returns-2 : tie.Need-returns-2 Inv-loop μ-loop
 returns-2 c =
-    let if2 = c in
+    let if2 = c .before in
     let token-at = if2 .before .before in
     let put-literal = token-at .before .before .before in
     let atom-row = put-literal .before in
@@ -104,7 +104,7 @@ returns-2 c =
     let atom-at = if1 .before .before .before .before .before .before .before in
     let loop = atom-at .before .before .before in
     let start = loop .before .before .before .before .before .before .before in
-    heads-end (start .args .program .now) (start .args .output .now) (start .args .names .now) (start .args .variables .now) (start .args .literals .now) (start .args .cursor) (start .args .start .number) (start .pre .rule) _ _ _ _ _ _ (loop .loop .inv) _ _ _ (atom-at .atom-at .ensures) (if1 .if1 .left) _ (atom-row .atom-row .ensures) (put-literal .put-literal .ensures .0) _ (put-literal .put-literal .ensures .1) _ (token-at .token-at .ensures) (if2 .if2 .taken)
+    rw (c .so-far2 .ensures) (heads-end (start .args .program .now) (start .args .output .now) (start .args .names .now) (start .args .variables .now) (start .args .literals .now) (start .args .cursor) (start .args .start .number) (start .pre .rule) _ _ _ _ _ _ (loop .loop .inv) _ _ _ (atom-at .atom-at .ensures) (if1 .if1 .left) _ (atom-row .atom-row .ensures) (put-literal .put-literal .ensures .0) _ (put-literal .put-literal .ensures .1) _ (token-at .token-at .ensures) (if2 .if2 .taken))
 
 past-requires : tie.Need-past-requires Inv-loop μ-loop
 past-requires c κs =
@@ -139,6 +139,7 @@ heads-at-spec =
     μ-loop
     loop-holds
     atom-at-requires
+    (λ c κs. search needs)
     same-length
     same-length-2
     same-length-3
@@ -149,6 +150,7 @@ heads-at-spec =
     put-literal-requires
     add-count
     token-at-requires
+    (λ c κs. search needs)
     same-length-4
     same-length-5
     same-length-6
