@@ -60,10 +60,10 @@ module _ (program output : Bytes) (names rules literals facts links : List ℕ) 
 
 module _ (store : List ℕ) where
   rules-long : length (rules-in store) ≤ 10_240
-  rules-long = omega (arith, length-take 10_240 (drop 70_656 store))
+  rules-long = omega (arith, length-take 10_240 (drop 65_536 store))
 
-  literals-long : length (literals-in store) ≤ 61_440
-  literals-long = omega (arith, length-take 61_440 (drop 9_216 store))
+  literals-long : length (literals-in store) ≤ 56_320
+  literals-long = omega (arith, length-take 56_320 (drop 9_216 store))
 
   pub few-rows : (total : ℕ) → ((r : ℕ) → r < total → RuleRow (rules-in store) (literals-in store) r) → total ≤ 256
   few-rows zero row = omega arith

@@ -15,7 +15,7 @@ use Rattle.meaning.specs.Values.{Value}
 use Rattle.grammar.specs.Sizes.{most-heads}
 use Rattle.codes.specs.Related.{end}
 use Rattle.codes.proofs.Pairwise.{pairwise-more}
-use Rattle.tables.specs.Rows.{no-operation, atom-with, atom-at}
+use Rattle.tables.specs.Rows.{atom-with, atom-at}
 use Rattle.tables.specs.Rows as tables
 use Rattle.tables.specs.Layout.{literal-stride, rule-rows, head-sort}
 use Rattle.tables.specs.Stored.{with-row}
@@ -69,7 +69,7 @@ going-start program output names variables literals k s asked =
     }
 
 -- the row of an atom as a head
-coded-head : (names : List Bytes) (codes : AtomCodes) (a : Atom (Term Value)) (row : List ℕ) → row ≡ head-sort ∷ codes .predicate ∷ 0 ∷ no-operation ∷ codes .terms → CodedAtom names codes a → CodedHead names row a
+coded-head : (names : List Bytes) (codes : AtomCodes) (a : Atom (Term Value)) (row : List ℕ) → row ≡ head-sort ∷ codes .predicate ∷ 0 ∷ codes .terms → CodedAtom names codes a → CodedHead names row a
 unfolding atom-with atom-at
 coded-head names codes a row er coded = rw er (coded .related)
 
@@ -121,7 +121,7 @@ module _ (program output : Bytes) (names₀ variables₀ literals₀ : List ℕ)
     pub head-fits : (number * rule-rows + n) * literal-stride + literal-stride ≤ length literals
     head-fits = let room = head-room .1 in let l = g .literals-long in omega (arith, asked .long (head-room .0))
 
-    module _ (row : List ℕ) (er : row ≡ head-sort ∷ w .codes .predicate ∷ 0 ∷ no-operation ∷ w .codes .terms) (twelve : length row ≡ literal-stride) (literals′ : List ℕ) (stored : literals′ ≡ with-row literals ((number * rule-rows + n) * literal-stride) row) where
+    module _ (row : List ℕ) (er : row ≡ head-sort ∷ w .codes .predicate ∷ 0 ∷ w .codes .terms) (full : length row ≡ literal-stride) (literals′ : List ℕ) (stored : literals′ ≡ with-row literals ((number * rule-rows + n) * literal-stride) row) where
       one-more : Reads (HeadsStand program output names₀ literals₀ (k .at .start) number (w .progress .place .start) (n + 1) names′ literals′)
       one-more = with-head more
         where
@@ -132,8 +132,8 @@ module _ (program output : Bytes) (names₀ variables₀ literals₀ : List ℕ)
               record {
                 size = inv size;
                 few = omega arith;
-                kept = kept-then (before .kept) (kept-wider (row-kept (number * rule-rows) n row literals twelve head-fits literals′ stored) (number * rule-rows * literal-stride) ((number * rule-rows + most-heads) * literal-stride) (omega arith) (omega arith));
-                stands = record { grows = grows-then program output (before .stands .grows) _ (one .grows) l; coded = rw size (row-more (number * rule-rows) n row literals twelve head-fits literals′ stored (pairwise-more _ (λ r b h. keeps-atom program output (one .grows) _ _ h) (rw (inv (before .size)) at (before .stands .coded))) (coded-head _ (w .codes) a row er (one .coded))) };
+                kept = kept-then (before .kept) (kept-wider (row-kept (number * rule-rows) n row literals full head-fits literals′ stored) (number * rule-rows * literal-stride) ((number * rule-rows + most-heads) * literal-stride) (omega arith) (omega arith));
+                stands = record { grows = grows-then program output (before .stands .grows) _ (one .grows) l; coded = rw size (row-more (number * rule-rows) n row literals full head-fits literals′ stored (pairwise-more _ (λ r b h. keeps-atom program output (one .grows) _ _ h) (rw (inv (before .size)) at (before .stands .coded))) (coded-head _ (w .codes) a row er (one .coded))) };
               }
 
       module _ (t : TokenRead) (et : t ≡ tokenRead false program (w .progress .place .start)) where
@@ -155,7 +155,7 @@ module _ (program output : Bytes) (names₀ variables₀ literals₀ : List ℕ)
                 is-token = rw eh at ef;
                 names-long = behind .1;
                 long = long;
-                literals-long = row-kept (number * rule-rows) n row literals twelve head-fits literals′ stored .long ∙ g .literals-long;
+                literals-long = row-kept (number * rule-rows) n row literals full head-fits literals′ stored .long ∙ g .literals-long;
                 so-far = behind-bar (w .progress) t et ek refl refl z one-more;
               })
             where

@@ -38,15 +38,15 @@ module _ (program output : Bytes) (names rules store : List ℕ) (r : ProgramRea
   pub store-long : length store′ ≡ store-size
   store-long = read .kept .long ∙ long
 
-  rules-fit : length rules ≡ 10_240 → 70_656 + length rules′ ≤ length store′
+  rules-fit : length rules ≡ 10_240 → 65_536 + length rules′ ≤ length store′
   rules-fit wide = omega (arith, read .rules-long, store-long)
 
-  pub rules-filled : length rules ≡ 10_240 → RulesFilled program output names store r names′ (with-row store′ 70_656 rules′)
+  pub rules-filled : length rules ≡ 10_240 → RulesFilled program output names store r names′ (with-row store′ 65_536 rules′)
   rules-filled wide =
       let size : length rules′ ≡ 10_240 = read .rules-long ∙ wide in
-      let kept = put-kept-of store′ 70_656 rules′ (rules-fit wide) 10_240 size in
-      let same : literals-in (with-row store′ 70_656 rules′) ≡ literals-in store′ = kept-part kept 61_440 9_216 (omega arith) in
-      record { long = kept .long ∙ store-long; rules-before = rules; reads = rw (put-part-of store′ 70_656 rules′ (rules-fit wide) 10_240 size, same) (read .reads) }
+      let kept = put-kept-of store′ 65_536 rules′ (rules-fit wide) 10_240 size in
+      let same : literals-in (with-row store′ 65_536 rules′) ≡ literals-in store′ = kept-part kept 56_320 9_216 (omega arith) in
+      record { long = kept .long ∙ store-long; rules-before = rules; reads = rw (put-part-of store′ 65_536 rules′ (rules-fit wide) 10_240 size, same) (read .reads) }
 
 module _ (facts : List ℕ) (count : ℕ) (store : List ℕ) (long : length store ≡ store-size) (wide : length facts ≡ facts-size) where
   facts-fit : 0 + length facts ≤ length store
@@ -59,14 +59,14 @@ module _ (facts : List ℕ) (count : ℕ) (store : List ℕ) (long : length stor
     put : facts-in store′ ≡ facts
     put = rw e (put-part-of store 0 facts facts-fit facts-size wide)
 
-    module _ (store″ : List ℕ) (linked : Linked (links-in store″) facts count) (kept′ : Kept 80_896 store-size store′ store″) (r : Clashing) (clash : (names : List Bytes) → FirstClash names facts count r) where
+    module _ (store″ : List ℕ) (linked : Linked (links-in store″) facts count) (kept′ : Kept 75_776 store-size store′ store″) (r : Clashing) (clash : (names : List Bytes) → FirstClash names facts count r) where
       pub facts-filled : FactsFilled facts count store store″ r
       facts-filled =
           record {
             long = kept′ .long ∙ kept .long ∙ long;
             facts-are = kept-part kept′ facts-size 0 (omega arith) ∙ put;
-            literals-are = kept-part kept′ 61_440 9_216 (omega arith) ∙ kept-behind kept 61_440 9_216 (omega arith);
-            rules-are = kept-part kept′ 10_240 70_656 (omega arith) ∙ kept-behind kept 10_240 70_656 (omega arith);
+            literals-are = kept-part kept′ 56_320 9_216 (omega arith) ∙ kept-behind kept 56_320 9_216 (omega arith);
+            rules-are = kept-part kept′ 10_240 65_536 (omega arith) ∙ kept-behind kept 10_240 65_536 (omega arith);
             linked = linked;
             clash = clash;
           }

@@ -29,7 +29,7 @@ pub record RulesFillable (program output : Bytes) (names store : List ℕ) : Typ
 -- the literals stand in their part of the store, and the rest of it is as it was
 pub record RulesRead (program output : Bytes) (names rules store : List ℕ) (r : ProgramRead) (names′ rules′ store′ : List ℕ) : Type 0 where
   pub reads : ReadsProgram program output names rules (literals-in store) r names′ rules′ (literals-in store′)
-  pub kept : Kept 9_216 70_656 store store′
+  pub kept : Kept 9_216 65_536 store store′
   pub rules-long : length rules′ ≡ length rules
 
 -- what `read_program` promises of tables of rules and literals holds of their parts of the store

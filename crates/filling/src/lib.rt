@@ -57,7 +57,7 @@ pub fn fill_rules<'a>(
 
 fn link_facts(facts: &[u64], predicates: &[u64], count: usize, store: &mut [u64])
     requires { ⌜ FactsFillable (now facts) (now predicates) count (now store) ⌝ }
-    ensures { λ _. ⌜ Linked (links-in (now (store .exit))) (now (facts .entry)) count × Kept 80_896 store-size (now (store .entry)) (now (store .exit)) ⌝ }
+    ensures { λ _. ⌜ Linked (links-in (now (store .exit))) (now (facts .entry)) count × Kept 75_776 store-size (now (store .entry)) (now (store .exit)) ⌝ }
 {
     chains::build(facts, predicates, count, &mut store[LINKS..STORE]);
 }

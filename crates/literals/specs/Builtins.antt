@@ -58,7 +58,7 @@ pub data ReadsCompared (program output : Bytes) (names variables : List ℕ) (k 
 -- ---- what the parts of it answer
 
 abbrev pub no-row : List ℕ
-no-row = 0 ∷ 0 ∷ 0 ∷ 0 ∷ 0 ∷ 0 ∷ 0 ∷ 0 ∷ 0 ∷ 0 ∷ 0 ∷ 0 ∷ []
+no-row = 0 ∷ 0 ∷ 0 ∷ 0 ∷ 0 ∷ 0 ∷ 0 ∷ 0 ∷ 0 ∷ 0 ∷ 0 ∷ []
 
 abbrev pub stoppedLiteral : ℕ → Place → ℕ → LiteralRead
 stoppedLiteral code place met = record { progress = halted code place; row = no-row; met = met }

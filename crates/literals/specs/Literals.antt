@@ -8,7 +8,6 @@ use Rattle.tokens.specs.declared.kind.Kind.the-variants.{Number, String}
 use Rattle.tokens.specs.Kind.{kindNumber}
 use Rattle.tokens.specs.Places.{places-in}
 use Rattle.meaning.specs.Rules.{Bytes}
-use Rattle.tables.specs.Rows.{no-operation}
 use Rattle.syntax.specs.declared.token.TokenRead.{TokenRead}
 use Rattle.syntax.specs.Text.{tokenRead}
 use Rattle.syntax.specs.Fills.{Fills}
@@ -38,4 +37,4 @@ begins-term kind = leb kind (kindNumber Number) || eqb kind (kindNumber String)
 -- ---- what a part of it answers
 
 abbrev pub atomLiteral : ℕ → AtomRead → LiteralRead
-atomLiteral sort a = record { progress = a .progress; row = sort ∷ a .codes .predicate ∷ 0 ∷ no-operation ∷ a .codes .terms; met = a .met }
+atomLiteral sort a = record { progress = a .progress; row = sort ∷ a .codes .predicate ∷ 0 ∷ a .codes .terms; met = a .met }

@@ -17,6 +17,7 @@ use Rattle.meaning.proofs.Booleans.{none-some, some-inj}
 use Rattle.codes.specs.Codes.{no-value, zero-code, is-number-code}
 use Rattle.codes.specs.Arithmetic.{operation-at}
 use Rattle.codes.specs.Domains.{codes, code-in-range}
+use Rattle.tables.specs.Layout.{sort-column, operation-column, first-column, second-column}
 use Rattle.tables.specs.Rows.{from, term-of, literal-column, no-operation, side-at, literal-at}
 use Rattle.overflow.proofs.Operations.{some-later, some-end}
 use Rattle.magnitudes.specs.Sizes.{size, greatest, Within, Modest, TermWithin, SideWithin}
@@ -72,34 +73,34 @@ multiplies o m n k = rw (ne-eqb o 0 (λ z. omega arith), ne-eqb o 1 (λ z. omega
 -- ---- a right side
 
 module _ (literals : List ℕ) (l : ℕ) (bounds : List ℕ) where
-  pub plain-within : literal-column literals l 3 ≡ no-operation → (n : ℕ) → TermWithin (literal-column literals l 5) bounds n → SideWithin literals l bounds n
+  pub plain-within : literal-column literals l operation-column ≡ no-operation → (n : ℕ) → TermWithin (literal-column literals l first-column) bounds n → SideWithin literals l bounds n
   unfolding side-at side-overflows side?
   plain-within e n t =
-      let z = eq-eqb (literal-column literals l 3) no-operation e in
+      let z = eq-eqb (literal-column literals l operation-column) no-operation e in
       record { stays = λ names ρ w. rw z; small = λ names ρ w v k. t .small ρ w v (rw z at k) }
 
-  module _ (e : literal-column literals l 3 ≡ no-operation → ⊥) (m n : ℕ) (first : TermWithin (literal-column literals l 5) bounds m) (second : TermWithin (literal-column literals l 6) bounds n) where
-    computed-within : reached (operation-at (literal-column literals l 3)) m n ≤ greatest → SideWithin literals l bounds (reached (operation-at (literal-column literals l 3)) m n)
+  module _ (e : literal-column literals l operation-column ≡ no-operation → ⊥) (m n : ℕ) (first : TermWithin (literal-column literals l first-column) bounds m) (second : TermWithin (literal-column literals l second-column) bounds n) where
+    computed-within : reached (operation-at (literal-column literals l operation-column)) m n ≤ greatest → SideWithin literals l bounds (reached (operation-at (literal-column literals l operation-column)) m n)
     unfolding side-at side-overflows side?
     computed-within g =
-        let z = ne-eqb (literal-column literals l 3) no-operation e in
+        let z = ne-eqb (literal-column literals l operation-column) no-operation e in
         record {
-          stays = λ names ρ w. rw z (fits-all _ (λ c k. operated-small names (operation-at (literal-column literals l 3)) m n (value? ρ (term-of (literal-column literals l 5))) (value? ρ (term-of (literal-column literals l 6))) (first .small ρ w) (second .small ρ w) g c k .0));
-          small = λ names ρ w v k. operated-small names (operation-at (literal-column literals l 3)) m n (value? ρ (term-of (literal-column literals l 5))) (value? ρ (term-of (literal-column literals l 6))) (first .small ρ w) (second .small ρ w) g v (rw z at k) .1;
+          stays = λ names ρ w. rw z (fits-all _ (λ c k. operated-small names (operation-at (literal-column literals l operation-column)) m n (value? ρ (term-of (literal-column literals l first-column))) (value? ρ (term-of (literal-column literals l second-column))) (first .small ρ w) (second .small ρ w) g c k .0));
+          small = λ names ρ w v k. operated-small names (operation-at (literal-column literals l operation-column)) m n (value? ρ (term-of (literal-column literals l first-column))) (value? ρ (term-of (literal-column literals l second-column))) (first .small ρ w) (second .small ρ w) g v (rw z at k) .1;
         }
 
-    pub sum-within : literal-column literals l 3 < 2 → m + n ≤ greatest → SideWithin literals l bounds (m + n)
-    sum-within h g = let e = sums (literal-column literals l 3) m n h in rw e at (computed-within (rw e g))
+    pub sum-within : literal-column literals l operation-column < 2 → m + n ≤ greatest → SideWithin literals l bounds (m + n)
+    sum-within h g = let e = sums (literal-column literals l operation-column) m n h in rw e at (computed-within (rw e g))
 
-    pub product-within : 2 ≤ literal-column literals l 3 → m * n ≤ greatest → SideWithin literals l bounds (m * n)
-    product-within h g = let e = multiplies (literal-column literals l 3) m n h in rw e at (computed-within (rw e g))
+    pub product-within : 2 ≤ literal-column literals l operation-column → m * n ≤ greatest → SideWithin literals l bounds (m * n)
+    product-within h g = let e = multiplies (literal-column literals l operation-column) m n h in rw e at (computed-within (rw e g))
 
 -- ---- literals
 
 module _ (literals : List ℕ) (l : ℕ) (bounds : List ℕ) where
-  pub literal-within : 2 ≤ literal-column literals l 0 → (n : ℕ) → SideWithin literals l bounds n → (names : List Bytes) (ρ : Values ℕ) → Within bounds ρ → literal-overflows (codes names) code-in-range ρ (literal-at literals l) ≡ false
+  pub literal-within : 2 ≤ literal-column literals l sort-column → (n : ℕ) → SideWithin literals l bounds n → (names : List Bytes) (ρ : Values ℕ) → Within bounds ρ → literal-overflows (codes names) code-in-range ρ (literal-at literals l) ≡ false
   unfolding literal-at literal-overflows
-  literal-within h n s names ρ w = rw (ne-eqb (literal-column literals l 0) 0 (λ e. omega arith), ne-eqb (literal-column literals l 0) 1 (λ e. omega arith)) (s .stays names ρ w)
+  literal-within h n s names ρ w = rw (ne-eqb (literal-column literals l sort-column) 0 (λ e. omega arith), ne-eqb (literal-column literals l sort-column) 1 (λ e. omega arith)) (s .stays names ρ w)
 
 module _ (literals : List ℕ) (end l : ℕ) (bounds : List ℕ) where
   -- the literals from place k on stay in range

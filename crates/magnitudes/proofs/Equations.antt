@@ -12,6 +12,7 @@ use Rattle.meaning.specs.Rules.{Bytes}
 use Rattle.meaning.specs.Matchings.{Values, side?}
 use Rattle.meaning.specs.Matcher.{set-to, complete}
 use Rattle.codes.specs.Domains.{codes}
+use Rattle.tables.specs.Layout.{terms-column}
 use Rattle.tables.specs.Rows.{literal-column, side-at, equation-at}
 use Rattle.magnitudes.specs.Sizes.{greatest, Within, Modest, SideWithin}
 
@@ -37,9 +38,9 @@ module _ (literals places bounds₀ : List ℕ) where
     abbrev here : ℕ
     here = getD places i 0
 
-    module _ (n : ℕ) (left : literal-column literals here 4 < 16) (modest : n ≤ greatest) (s : SideWithin literals here bounds n) where
+    module _ (n : ℕ) (left : literal-column literals here terms-column < 16) (modest : n ≤ greatest) (s : SideWithin literals here bounds n) where
       abbrev left-of : ℕ
-      left-of = literal-column literals here 4
+      left-of = literal-column literals here terms-column
 
       inside : left-of < length bounds
       inside = omega (arith, b .long)

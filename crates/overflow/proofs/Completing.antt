@@ -19,6 +19,7 @@ use Rattle.meaning.specs.Matcher.{bind, set-to, complete}
 use Rattle.meaning.proofs.Booleans.{bool-cases, or-cases, or-left, or-right, eqb-sound, eqb-self}
 use Rattle.codes.specs.Codes.{no-value}
 use Rattle.codes.specs.Domains.{codes}
+use Rattle.tables.specs.Layout.{terms-column}
 use Rattle.tables.specs.Rows.{literal-column, side-at, equation-at}
 use Rattle.tables.specs.WellFormed.{EquationRow}
 use Rattle.derived_set.specs.Members.{bit}
@@ -36,7 +37,7 @@ adds-none bound values k = record { knowing = k; kept = kept-all bound values; m
 
 module _ (literals : List ℕ) (l bound : ℕ) (values : List ℕ) (row : EquationRow literals l) (known : Knowing bound values) where
   abbrev x : ℕ
-  x = literal-column literals l 4
+  x = literal-column literals l terms-column
 
   still-only : (y : ℕ) → bit bound y ≡ true → with (bit bound) x y ≡ true
   unfolding with

@@ -17,6 +17,7 @@ use Rattle.meaning.specs.Quick.{unfit, side-overflows, literal-overflows}
 use Rattle.meaning.proofs.Booleans.{not-twice}
 use Rattle.codes.specs.Codes.{no-value, beyond}
 use Rattle.codes.specs.Domains.{codes, code-in-range}
+use Rattle.tables.specs.Layout.{sort-column, operation-column}
 use Rattle.tables.specs.Rows.{from, literal-column, no-operation, side-at, literal-at}
 use Rattle.tables.specs.WellFormed.{has-operation}
 use Rattle.tables.proofs.Strides.{from-more, from-end}
@@ -31,30 +32,30 @@ unfit-said c = go (decLt no-value c)
     go (no h) = let k : c ≤ no-value = omega arith in rw (le-ltb no-value c k) (sym (ne-eqb c beyond (λ e. omega arith)))
 
 module _ (names : List Bytes) (literals : List ℕ) (l : ℕ) (ρ : Values ℕ) where
-  pub classical-stays : literal-column literals l 0 < 2 → literal-overflows (codes names) code-in-range ρ (literal-at literals l) ≡ false
+  pub classical-stays : literal-column literals l sort-column < 2 → literal-overflows (codes names) code-in-range ρ (literal-at literals l) ≡ false
   unfolding literal-at literal-overflows
-  classical-stays h = go (eqb (literal-column literals l 0) 0) (eqb (literal-column literals l 0) 1) refl refl
+  classical-stays h = go (eqb (literal-column literals l sort-column) 0) (eqb (literal-column literals l sort-column) 1) refl refl
     where
-      go : (s t : Bool) → eqb (literal-column literals l 0) 0 ≡ s → eqb (literal-column literals l 0) 1 ≡ t → literal-overflows (codes names) code-in-range ρ (literal-at literals l) ≡ false
+      go : (s t : Bool) → eqb (literal-column literals l sort-column) 0 ≡ s → eqb (literal-column literals l sort-column) 1 ≡ t → literal-overflows (codes names) code-in-range ρ (literal-at literals l) ≡ false
       go true t e f = rw e
       go false true e f = rw (e, f)
-      go false false e f = let p = eqb-false (literal-column literals l 0) 0 e in let q = eqb-false (literal-column literals l 0) 1 f in absurd (omega arith)
+      go false false e f = let p = eqb-false (literal-column literals l sort-column) 0 e in let q = eqb-false (literal-column literals l sort-column) 1 f in absurd (omega arith)
 
-  module _ (h : 2 ≤ literal-column literals l 0) where
-    not-positive : eqb (literal-column literals l 0) 0 ≡ false
-    not-positive = ne-eqb (literal-column literals l 0) 0 (λ e. omega arith)
+  module _ (h : 2 ≤ literal-column literals l sort-column) where
+    not-positive : eqb (literal-column literals l sort-column) 0 ≡ false
+    not-positive = ne-eqb (literal-column literals l sort-column) 0 (λ e. omega arith)
 
-    not-negated : eqb (literal-column literals l 0) 1 ≡ false
-    not-negated = ne-eqb (literal-column literals l 0) 1 (λ e. omega arith)
+    not-negated : eqb (literal-column literals l sort-column) 1 ≡ false
+    not-negated = ne-eqb (literal-column literals l sort-column) 1 (λ e. omega arith)
 
-    pub plain-stays : literal-column literals l 3 ≡ no-operation → literal-overflows (codes names) code-in-range ρ (literal-at literals l) ≡ false
+    pub plain-stays : literal-column literals l operation-column ≡ no-operation → literal-overflows (codes names) code-in-range ρ (literal-at literals l) ≡ false
     unfolding literal-at literal-overflows side-overflows side-at
-    plain-stays e = rw (not-positive, not-negated, eq-eqb (literal-column literals l 3) no-operation e)
+    plain-stays e = rw (not-positive, not-negated, eq-eqb (literal-column literals l operation-column) no-operation e)
 
-    pub computed-leaves : (literal-column literals l 3 ≡ no-operation → ⊥) → (r : ℕ) → said r ≡ side? (codes names) ρ (side-at literals l) → eqb r beyond ≡ literal-overflows (codes names) code-in-range ρ (literal-at literals l)
+    pub computed-leaves : (literal-column literals l operation-column ≡ no-operation → ⊥) → (r : ℕ) → said r ≡ side? (codes names) ρ (side-at literals l) → eqb r beyond ≡ literal-overflows (codes names) code-in-range ρ (literal-at literals l)
     unfolding literal-at literal-overflows side-overflows side-at side?
     computed-leaves n r q =
-        let t = ne-eqb (literal-column literals l 3) no-operation n in
+        let t = ne-eqb (literal-column literals l operation-column) no-operation n in
         rw (not-positive, not-negated, t) (sym (unfit-said r) ∙ ap (unfit code-in-range) (rw t at q))
 
 -- ---- a test of some literal, by place

@@ -97,7 +97,6 @@ module _ (rules rules′ literals literals′ : List ℕ) (r : ℕ) (a : Agrees 
       record {
         inside = let k = h .inside in omega arith;
         heads-within = let w = h .heads-within in omega arith;
-        few-heads = grown-owns .few-heads;
         body = λ l p q. (let b = h .body l (omega arith) (omega arith) in let i = b .inside in record { inside = omega arith; side = λ k. same-side l (omega arith) (omega arith) (b .side (rw (same-column l (omega arith) (omega arith) sort-column (omega arith)) at k)) });
         within = let w = h .within in omega arith;
         short = omega arith;

@@ -23,7 +23,7 @@ abbrev pub rules-size : ℕ
 rules-size = 10_240
 
 abbrev pub literals-size : ℕ
-literals-size = 61_440
+literals-size = 56_320
 
 -- what is asked: tables with room. The table of names is touched only where the program is not over its size
 pub record Fillable (program output : Bytes) (names rules literals : List ℕ) : Type 0 where

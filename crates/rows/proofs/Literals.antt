@@ -32,10 +32,10 @@ eight-listed (_ ∷ _ ∷ _ ∷ _ ∷ _ ∷ _ ∷ _ ∷ _ ∷ _ ∷ _) e = absur
 -- ---- rows that stand for literals
 
 abbrev pub atom-row : ℕ → AtomCodes → List ℕ
-atom-row sort r = sort ∷ r .predicate ∷ 0 ∷ no-operation ∷ r .terms
+atom-row sort r = sort ∷ r .predicate ∷ 0 ∷ r .terms
 
 abbrev pub built-in-row : ℕ → ℕ → ℕ → ℕ → ℕ → List ℕ
-built-in-row k o a b c = 2 ∷ 0 ∷ k ∷ o ∷ a ∷ b ∷ c ∷ 0 ∷ 0 ∷ 0 ∷ 0 ∷ 0 ∷ []
+built-in-row k o a b c = 2 ∷ o ∷ k ∷ a ∷ b ∷ c ∷ 0 ∷ 0 ∷ 0 ∷ 0 ∷ 0 ∷ []
 
 module _ (names : List Bytes) where
   pub coded-positive : (r : AtomCodes) (a : Atom (Term Value)) → CodedAtom names r a → CodedLiteral names (atom-row 0 r) (positive a)

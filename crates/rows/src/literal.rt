@@ -1,4 +1,4 @@
-// Literals to rows of 12 numbers: an atom's row, and a built-in's.
+// Literals to rows of 11 numbers: an atom's row, and a built-in's.
 ghost use mathlib.Core.Path.{_≡_};
 ghost use mathlib.Core.List.{[], _∷_};
 ghost use Prim.Native.Nat.{_<_};
@@ -7,7 +7,6 @@ ghost use Rattle.tables.specs.Rows.{no-operation};
 ghost use Rattle.syntax.specs.Builtins.{comparison-of, operation-of};
 use tables::BUILTIN;
 use tables::LITERAL;
-use tables::NO_OPERATION;
 use tokens::kind;
 use tokens::sizes::MOST_ARGUMENTS;
 
@@ -57,14 +56,13 @@ pub fn operation_code(kind: u8) -> u64
 
 // The row of an atom of some sort.
 pub fn atom_row(sort: u64, codes: AtomCodes) -> [u64; LITERAL]
-    ensures { λ r. ⌜ r ≡ sort ∷ codes .predicate ∷ 0 ∷ no-operation ∷ codes .terms ⌝ }
+    ensures { λ r. ⌜ r ≡ sort ∷ codes .predicate ∷ 0 ∷ codes .terms ⌝ }
 {
     let terms = codes.terms;
     [
         sort,
         codes.predicate,
         codes::EQUAL,
-        NO_OPERATION,
         terms[0],
         terms[1],
         terms[2],
@@ -84,13 +82,12 @@ pub fn built_in_row(
     right: u64,
     operand: u64,
 ) -> [u64; LITERAL]
-    ensures { λ r. ⌜ r ≡ 2 ∷ 0 ∷ comparison ∷ operation ∷ left ∷ right ∷ operand ∷ 0 ∷ 0 ∷ 0 ∷ 0 ∷ 0 ∷ [] ⌝ }
+    ensures { λ r. ⌜ r ≡ 2 ∷ operation ∷ comparison ∷ left ∷ right ∷ operand ∷ 0 ∷ 0 ∷ 0 ∷ 0 ∷ 0 ∷ [] ⌝ }
 {
     [
         BUILTIN,
-        0,
-        comparison,
         operation,
+        comparison,
         left,
         right,
         operand,

@@ -70,7 +70,6 @@ module _ {names : List Bytes} {m : Rule Value} {rules literals : List ℕ} {numb
       record {
         inside = let l = stored .kept .long in let i = rule .asked .long in omega arith;
         heads-within = omega arith;
-        few-heads = omega arith;
         body = λ l p q. record { inside = omega arith; side = side-row names literals (first-of-body number) (m .body) (rule .body-coded) l (omega arith) (omega arith) };
         within = omega arith;
         short = omega arith;

@@ -1,14 +1,14 @@
 -- A rule's own row, over its literals' rows: what is asked where it is stored, and what it then says.
 use mathlib.Core.Path.{_≡_}
-use mathlib.Core.Bool.{Bool, false, not, _||_}
+use mathlib.Core.Bool.{Bool, false, not, _&&_, _||_}
 use mathlib.Core.List.{List, map}
 use Prim.Native.Nat.{ℕ, zero, suc, _+_, _*_, _≤_, _<_}
-use lib.Dec.{eqb}
+use lib.Dec.{eqb, ltb}
 use lib.ListN.{length, take, drop}
 use Rattle.meaning.specs.Sets.{In, any}
 use Rattle.meaning.specs.Safety as meaning
 use Rattle.grammar.specs.Sizes.{most-heads, most-literals}
-use Rattle.tables.specs.Layout.{operation-column, rule-rows, rule-stride, first-head-column, heads-column, first-literal-column, literals-column, has-operation-column, equations-column, positives-column, equation-places-column, positive-places-column}
+use Rattle.tables.specs.Layout.{sort-column, operation-column, builtin-sort, rule-rows, rule-stride, first-head-column, heads-column, first-literal-column, literals-column, has-operation-column, equations-column, positives-column, equation-places-column, positive-places-column}
 use Rattle.tables.specs.Rows.{from, literal-column, atom-at, no-operation, literal-at, equation-at, rule-column, equation-places, positive-places}
 use Rattle.tables.specs.WellFormed.{has-operation}
 use Rattle.tables.specs.Stored.{Kept}
@@ -17,10 +17,14 @@ use Rattle.rulesafety.specs.declared.rule_row.Numbers.{Numbers}
 use Rattle.rulesafety.specs.Bound.{bitsOf, BodyInside, body-at}
 use Rattle.rulesafety.specs.Scanned.{Binds}
 
--- some row among n from k on has an operation; rows of atoms have none
+-- the row is that of a built-in with an operation
+unfoldable pub row-operation : List ℕ → ℕ → Bool
+row-operation literals l = not (ltb (literal-column literals l sort-column) builtin-sort) && not (eqb (literal-column literals l operation-column) no-operation)
+
+-- some row among n from k on is
 unfoldable pub some-operation : List ℕ → ℕ → ℕ → Bool
 some-operation literals zero k = false
-some-operation literals (suc n) k = not (eqb (literal-column literals k operation-column) no-operation) || some-operation literals n (suc k)
+some-operation literals (suc n) k = row-operation literals k || some-operation literals n (suc k)
 
 -- the numbers of a rule, as they stand in its row; its heads have the first rows of its number, its body the rows from `first` on
 pub record NumbersStored (rules : List ℕ) (number first : ℕ) (n : Numbers) (rules′ : List ℕ) : Type 0 where

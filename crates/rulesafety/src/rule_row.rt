@@ -4,12 +4,14 @@ ghost use mathlib.Core.Bool.{cond};
 ghost use Prim.Native.Nat.{_+_, _*_, _≤_};
 ghost use lib.ListN.{length};
 ghost use Rattle.tables.specs.Layout.{rule-stride};
+ghost use Rattle.tables.specs.WellFormed.{Inside};
 ghost use Rattle.rulesafety.specs.Bound.{BodyInside};
-ghost use Rattle.rulesafety.specs.RuleRow.{some-operation, NumbersStored, Storable, RowStored};
+ghost use Rattle.rulesafety.specs.RuleRow.{row-operation, some-operation, NumbersStored, Storable, RowStored};
 use crate::bound::Bound;
 use crate::listed::Rows;
 use crate::listed::positives_of;
 use crate::scan::scan_of;
+use tables::BUILTIN;
 use tables::EQUATION_PLACES;
 use tables::LITERAL;
 use tables::NO_OPERATION;
@@ -17,6 +19,7 @@ use tables::OPERATION;
 use tables::POSITIVE_PLACES;
 use tables::ROWS;
 use tables::RULE;
+use tables::SORT;
 use tables::row::put_row;
 use tokens::sizes::MOST_HEADS;
 
@@ -30,6 +33,21 @@ struct Numbers {
     positives: Rows,
 }
 
+// The row is that of a built-in with an operation.
+fn row_operation(literals: &[u64], literal: usize) -> bool
+    requires { ⌜ Inside (now literals) literal ⌝ }
+    ensures { λ r. ⌜ r ≡ row-operation (now (literals .entry)) literal ⌝ }
+{
+    let row = literal * LITERAL;
+    if literals[row + SORT] < BUILTIN {
+        return false;
+    }
+    if literals[row + OPERATION] == NO_OPERATION {
+        return false;
+    }
+    true
+}
+
 // 1 where some row of a body has an operation, else 0. The body has `count` rows from `first` on.
 fn has_operation(literals: &[u64], first: usize, count: usize) -> u64
     requires { ⌜ BodyInside (now literals) first count ⌝ }
@@ -37,7 +55,7 @@ fn has_operation(literals: &[u64], first: usize, count: usize) -> u64
 {
     let mut i = 0;
     while i < count {
-        if literals[(first + i) * LITERAL + OPERATION] != NO_OPERATION {
+        if row_operation(literals, first + i) {
             return 1;
         }
         i += 1;

@@ -10,23 +10,23 @@ pub const ARGUMENTS: usize = 1;
 // A predicate's number ends in its arity.
 pub const ARITIES: u64 = 9;
 
-// The numbers of a literal: its sort, predicate, comparison and operation, and 8 columns for its terms.
-pub const LITERAL: usize = 12;
+// The numbers of a literal: its sort, its predicate or, of a built-in, which has none, its operation, its comparison, and 8 columns for its terms.
+pub const LITERAL: usize = 11;
 
 pub const SORT: usize = 0;
 
 pub const PREDICATE: usize = 1;
 
+pub const OPERATION: usize = 1;
+
 pub const COMPARISON: usize = 2;
 
-pub const OPERATION: usize = 3;
-
-pub const TERMS: usize = 4;
+pub const TERMS: usize = 3;
 
 // The two terms on the right of a built-in; its left one is the first of the terms.
-pub const FIRST: usize = 5;
+pub const FIRST: usize = 4;
 
-pub const SECOND: usize = 6;
+pub const SECOND: usize = 5;
 
 // The sorts of literals.
 pub const POSITIVE: u64 = 0;

@@ -12,7 +12,7 @@ returns c =
     let store = start .args .store .now in
     let part = build .build .last .1 .1 .1 .0 in
     let fits = build .build .ensures .long in
-    (rw (put-there 80_896 111_616 store part (omega arith) (omega (arith, start .pre .long)) fits) (build .build .ensures), put-kept 80_896 111_616 store part (omega arith) (omega (arith, start .pre .long)) fits)
+    (rw (put-there 75_776 106_496 store part (omega arith) (omega (arith, start .pre .long)) fits) (build .build .ensures), put-kept 75_776 106_496 store part (omega arith) (omega (arith, start .pre .long)) fits)
 
 pub link-facts-spec : {M : Type 1} → statement M
 link-facts-spec =

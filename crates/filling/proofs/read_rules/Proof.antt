@@ -13,10 +13,10 @@ returns c =
     let start = read .before .before .before .before .before .before .before .before .before in
     let store = start .args .store .now in
     let part = read .read-program .last .1 .1 .1 .1 .0 in
-    let fits : length part ≡ 61_440 = search needs in
+    let fits : length part ≡ 56_320 = search needs in
     record {
-      reads = rw (put-there 9_216 70_656 store part (omega arith) (omega (arith, start .pre .0 .long)) fits) (read .read-program .ensures);
-      kept = put-kept 9_216 70_656 store part (omega arith) (omega (arith, start .pre .0 .long)) fits;
+      reads = rw (put-there 9_216 65_536 store part (omega arith) (omega (arith, start .pre .0 .long)) fits) (read .read-program .ensures);
+      kept = put-kept 9_216 65_536 store part (omega arith) (omega (arith, start .pre .0 .long)) fits;
       rules-long = search needs;
     }
 

@@ -1,5 +1,6 @@
 -- `complete_one` meets its contract: a variable that has a value, a right side without one, and one with a value. Assumes nothing.
 use native.Mathlib.Omega.{arith}
+use Rattle.tables.specs.Layout.{terms-column}
 use Rattle.tables.specs.Rows.{literal-column}
 use Rattle.derived_set.proofs.Bits.{one-shifted}
 use Rattle.matching.proofs.Masks.{bit-set, bit-clear}
@@ -42,7 +43,7 @@ returns-3 : tie.Need-returns-3
 returns-3 c =
     let if1 = c .before .before .before in
     let start = if1 .before .before .before .before in
-    rw (one-shifted (literal-column (start .args .literals .now) (start .args .l) 4) (omega (arith, start .pre .0 .left))) (has-right (start .args .literals .now) (start .args .l) (start .args .bound) (start .args .values .now) (start .pre .0) (start .pre .1) _ (c .before .right-value .ensures) (bit-clear _ _ (if1 .if1 .left)) (omega (arith, c .if2 .left)))
+    rw (one-shifted (literal-column (start .args .literals .now) (start .args .l) terms-column) (omega (arith, start .pre .0 .left))) (has-right (start .args .literals .now) (start .args .l) (start .args .bound) (start .args .values .now) (start .pre .0) (start .pre .1) _ (c .before .right-value .ensures) (bit-clear _ _ (if1 .if1 .left)) (omega (arith, c .if2 .left)))
 
 pub complete-one-spec : {M : Type 1} → statement M
 complete-one-spec =
