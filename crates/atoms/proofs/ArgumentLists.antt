@@ -10,10 +10,10 @@ use lib.Dec.{leb}
 use lib.ListN.{length, take, set, length-set}
 use lib.Seq.{take-suc-set}
 use borrow.Author.Tests.{ne-eqb, leb-false}
-use Rattle.tokens.specs.declared.place.Place.{Place}
-use Rattle.tokens.specs.Place.{Stands, past}
-use Rattle.tokens.specs.Places.{places-in}
-use Rattle.tokens.specs.Tokens.{part}
+use Rattle.texts.specs.declared.place.Place.{Place}
+use Rattle.texts.specs.Place.{Stands, past}
+use Rattle.texts.specs.Places.{places-in}
+use Rattle.texts.specs.Parts.{part}
 use Rattle.meaning.specs.Rules.{Bytes, Term}
 use Rattle.meaning.specs.Values.{Value}
 use Rattle.grammar.specs.Tokens.{closing}

@@ -4,9 +4,9 @@ use mathlib.Core.Bool.{Bool, true, false}
 use mathlib.Core.List.{List, []}
 use Prim.Native.Nat.{ℕ, _-_, _≤_, _<_}
 use native.Mathlib.Omega.{arith}
-use Rattle.tokens.specs.declared.place.Place.{Place}
-use Rattle.tokens.specs.Place.{Stands, past}
-use Rattle.tokens.specs.Tokens.{part}
+use Rattle.texts.specs.declared.place.Place.{Place}
+use Rattle.texts.specs.Place.{Stands, past}
+use Rattle.texts.specs.Parts.{part}
 use Rattle.meaning.specs.Rules.{Bytes, Term, Atom}
 use Rattle.meaning.specs.Values.{Value}
 use Rattle.codes.specs.Predicates.{predicate-code}

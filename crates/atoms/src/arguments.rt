@@ -2,6 +2,7 @@
 ghost use mathlib.Core.Path.{_≡_};
 ghost use Rattle.terms.specs.Cursors.{ReadyCursor};
 ghost use Rattle.atoms.specs.Arguments.{stoppedArguments, goneArguments, ReadySome, ReadsArguments};
+use lexis::kind::CLOSE;
 use syntax::separator::separator_at;
 use syntax::token::Progress;
 use syntax::token::TokenRead;
@@ -9,10 +10,9 @@ use syntax::token::token_at;
 use terms::cursor::Cursor;
 use terms::cursor::onward;
 use terms::term::term_at;
-use tokens::kind::CLOSE;
-use tokens::place::Place;
-use tokens::place::past;
-use tokens::sizes::MOST_ARGUMENTS;
+use texts::place::Place;
+use texts::place::past;
+use texts::sizes::MOST_ARGUMENTS;
 
 // The numbers of the first `count` terms, and how many variables have been met behind them.
 pub struct ArgumentsRead {

@@ -4,6 +4,9 @@ ghost use Rattle.terms.specs.Cursors.{ReadyCursor, ReadyToken};
 ghost use Rattle.atoms.specs.Atoms.{stoppedAtom, goneAtom, ReadyNamed, ReadsNamed, ReadsMinus, ReadsAtom};
 use crate::arguments::arguments_at;
 use codes::predicate;
+use lexis::kind::MINUS;
+use lexis::kind::NAME;
+use lexis::kind::OPEN;
 use rows::literal::AtomCodes;
 use rows::term::name_number;
 use syntax::token::Progress;
@@ -14,12 +17,9 @@ use syntax::word::WRONG;
 use syntax::word::word_code;
 use terms::cursor::Cursor;
 use terms::cursor::onward;
-use tokens::kind::MINUS;
-use tokens::kind::NAME;
-use tokens::kind::OPEN;
-use tokens::place::Place;
-use tokens::place::past;
-use tokens::sizes::MOST_ARGUMENTS;
+use texts::place::Place;
+use texts::place::past;
+use texts::sizes::MOST_ARGUMENTS;
 
 // An atom's numbers, and how many variables have been met behind it.
 pub struct AtomRead {

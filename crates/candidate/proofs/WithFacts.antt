@@ -5,9 +5,9 @@ use mathlib.Core.List.{List}
 use Prim.Native.Nat.{ℕ, _<_, _≤_}
 use native.Mathlib.Omega.{arith}
 use lib.ListN.{length}
-use Rattle.tokens.specs.declared.place.Place.{Place}
-use Rattle.tokens.specs.Tokens.{part}
-use Rattle.tokens.specs.Place.{text-start}
+use Rattle.texts.specs.declared.place.Place.{Place}
+use Rattle.texts.specs.Parts.{part}
+use Rattle.texts.specs.Place.{text-start}
 use Rattle.meaning.specs.Rules.{Bytes, Fact, Rule, disjunctive}
 use Rattle.meaning.specs.Values.{Value}
 use Rattle.names.specs.Table.{names-of}
@@ -26,7 +26,8 @@ use Rattle.fields.specs.Checked.{Answers}
 use Rattle.candidate.specs.declared.settled.Counts.{Counts}
 use Rattle.candidate.specs.declared.settled.Task.{Task}
 use Rattle.candidate.specs.declared.Fault.{Fault}
-use Rattle.candidate.specs.Standing.{several-heads, InStore, Settling, Behind, FaultOf, WithFacts}
+use Rattle.candidate.specs.Standing.{several-heads, InStore, Settling}
+use Rattle.candidate.specs.Facts.{Behind, FaultOf, WithFacts}
 use Rattle.candidate.proofs.Clashing.{counted, first-clashes, none-clashes}
 use Rattle.candidate.proofs.Settling.{few-rows}
 use Rattle.candidate.proofs.Heads.{same-disjunctive}

@@ -2,10 +2,10 @@
 ghost use mathlib.Core.Path.{_≡_};
 ghost use Prim.Native.Nat.{_<_, _≤_};
 ghost use lib.ListN.{length, getD};
-ghost use Rattle.tokens.specs.Place.{Countable};
+ghost use Rattle.texts.specs.Place.{Countable};
 ghost use Rattle.fields.specs.Parts.{fact-place};
 ghost use Rattle.filling.specs.Filling.{FactsFillable};
-ghost use Rattle.candidate.specs.Standing.{Reachable, FactsPut, WithFacts, AnswersFacts};
+ghost use Rattle.candidate.specs.Facts.{Reachable, FactsPut, WithFacts, AnswersFacts};
 use clashes::Clashing;
 use clashes::NONE;
 use fields::answer::Answer;
@@ -17,9 +17,9 @@ use judge::several::several_heads;
 use settled::Counts;
 use settled::Task;
 use settled::settled;
-use tokens::place::Place;
-use tokens::place::TEXT_START;
-use tokens::sizes::MOST_TESTED_FACTS;
+use texts::place::Place;
+use texts::place::TEXT_START;
+use texts::sizes::MOST_TESTED_FACTS;
 
 pub mod settled;
 

@@ -5,13 +5,13 @@ use mathlib.Core.List.{List}
 use Prim.Native.Nat.{ℕ, _+_, _≤_}
 use native.Mathlib.Omega.{arith}
 use lib.ListN.{length, length-take, length-drop}
-use Rattle.tokens.specs.declared.place.Place.{Place}
+use Rattle.texts.specs.declared.place.Place.{Place}
 use Rattle.output.proofs.Stages.{counted-on-line}
 use Rattle.rule_places.proofs.Inside.{sentence-inside}
-use Rattle.tokens.proofs.Counting.{countable}
-use Rattle.tokens.specs.Sizes.{most-text}
-use Rattle.tokens.specs.Tokens.{part}
-use Rattle.tokens.specs.Place.{with-len, along}
+use Rattle.texts.proofs.Counting.{countable}
+use Rattle.texts.specs.Sizes.{most-text}
+use Rattle.texts.specs.Parts.{part}
+use Rattle.texts.specs.Place.{with-len, along}
 use Rattle.meaning.specs.Rules.{Bytes, Rule}
 use Rattle.meaning.specs.Values.{Value}
 use Rattle.grammar.specs.Trees.{Program}
@@ -33,7 +33,8 @@ use Rattle.fields.specs.declared.answer.Answer.{Answer}
 use Rattle.fields.specs.Checked.{Answers}
 use Rattle.candidate.specs.declared.settled.Counts.{Counts}
 use Rattle.candidate.specs.declared.Fault.{Fault}
-use Rattle.candidate.specs.Standing.{RulesStand, RulesHeld, Held, InStore, FaultOf, FactsPut, WithFacts, AnswersFacts, Reachable}
+use Rattle.candidate.specs.Standing.{RulesStand, RulesHeld, Held, InStore}
+use Rattle.candidate.specs.Facts.{FaultOf, FactsPut, WithFacts, AnswersFacts, Reachable}
 use Rattle.checker.specs.Standing.{WithRules, BehindProgram}
 use Rattle.checker.proofs.Ways.{by-candidate}
 

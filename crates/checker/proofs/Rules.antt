@@ -5,8 +5,8 @@ use mathlib.Core.List.{List, _++_}
 use Prim.Native.Nat.{ℕ, _≤_}
 use native.Mathlib.Omega.{arith}
 use lib.ListN.{length}
-use Rattle.tokens.specs.Tokens.{bytes-in}
-use Rattle.tokens.specs.Sizes.{most-text}
+use Rattle.texts.specs.Parts.{bytes-in}
+use Rattle.texts.specs.Sizes.{most-text}
 use Rattle.meaning.specs.Rules.{Bytes}
 use Rattle.grammar.specs.Trees.{Program}
 use Rattle.grammar.specs.Abstraction.{rules-for}

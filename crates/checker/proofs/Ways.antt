@@ -5,8 +5,8 @@ use mathlib.Core.List.{List}
 use Prim.Native.Nat.{ℕ}
 use borrow.Author.Tests.{eqb-true, eq-eqb}
 use lib.Dec.{eqb}
-use Rattle.tokens.specs.declared.place.Place.{Place}
-use Rattle.tokens.specs.Place.{text-start}
+use Rattle.texts.specs.declared.place.Place.{Place}
+use Rattle.texts.specs.Place.{text-start}
 use Rattle.meaning.specs.Rules.{Bytes}
 use Rattle.meaning.proofs.Booleans.{not-true, not-false}
 use Rattle.grammar.specs.Trees.{Program}
@@ -29,7 +29,7 @@ use Rattle.fields.specs.declared.answer.Answer.{Answer}
 use Rattle.fields.specs.Values.{claimed, refused}
 use Rattle.fields.specs.Parts.{text-of}
 use Rattle.fields.specs.Checked.{Answers}
-use Rattle.candidate.specs.Standing.{Behind}
+use Rattle.candidate.specs.Facts.{Behind}
 use Rattle.checker.specs.Standing.{BehindProgram}
 use Rattle.fields.proofs.Saying.{none-says, unknown-says}
 use Rattle.fields.proofs.Answering.{refuses, hands-on, answers-as}

@@ -4,7 +4,7 @@ use mathlib.Core.Bool.{true, false}
 use mathlib.Core.List.{List}
 use Prim.Native.Nat.{ℕ, _+_, _≤_, _<_, min}
 use lib.ListN.{length}
-use Rattle.tokens.specs.Sizes.{most-text}
+use Rattle.texts.specs.Sizes.{most-text}
 use Rattle.meaning.specs.Rules.{Bytes}
 use Rattle.names.specs.Table.{most-names}
 use Rattle.rows.specs.Growth.{Room}

@@ -10,9 +10,9 @@ use filling::empty_store;
 use filling::fill_rules;
 use names::SMALL_TEXT;
 use reported::reported;
-use tokens::parts::bytes_in;
-use tokens::place::span_from;
-use tokens::sizes::MOST_TEXT;
+use texts::parts::bytes_in;
+use texts::place::span_from;
+use texts::sizes::MOST_TEXT;
 
 mod reported;
 

@@ -12,8 +12,8 @@ use output::read_output;
 use report::word::Word;
 use report::word::agrees;
 use tables::FACT;
-use tokens::place::TEXT_START;
-use tokens::sizes::MOST_FACTS;
+use texts::place::TEXT_START;
+use texts::sizes::MOST_FACTS;
 
 // The refusal where the solver's code and its report disagree.
 const DISAGREE: u8 = 10;

@@ -9,11 +9,11 @@ use native.Mathlib.Omega.{arith}
 use native.Mathlib.Numerals.{add-one}
 use lib.Dec.{leb}
 use lib.ListN.{length, length-append}
-use Rattle.tokens.specs.Place.{Stands}
+use Rattle.texts.specs.Place.{Stands}
 use borrow.Author.Tests.{ne-eqb, leb-false}
-use Rattle.tokens.specs.declared.place.Place.{Place}
-use Rattle.tokens.specs.Places.{places-in}
-use Rattle.tokens.specs.Tokens.{part}
+use Rattle.texts.specs.declared.place.Place.{Place}
+use Rattle.texts.specs.Places.{places-in}
+use Rattle.texts.specs.Parts.{part}
 use Rattle.reading.specs.Machine.{walk}
 use Rattle.meaning.specs.Rules.{Bytes}
 use Rattle.grammar.specs.Trees.{Sequence, empty, _then_, count, Literal as LiteralTree, Heads, Program}

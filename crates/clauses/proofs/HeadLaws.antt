@@ -7,8 +7,8 @@ use native.Mathlib.Omega.{arith}
 use lib.Dec.{leb}
 use lib.ListN.{length, length-append}
 use borrow.Author.Tests.{leb-false}
-use Rattle.tokens.specs.Place.{Stands, past}
-use Rattle.tokens.specs.Places.{places-in}
+use Rattle.texts.specs.Place.{Stands, past}
+use Rattle.texts.specs.Places.{places-in}
 use Rattle.reading.specs.Reading.{_▹_}
 use Rattle.meaning.specs.Rules.{Bytes, Term, Atom}
 use Rattle.meaning.specs.Values.{Value}

@@ -6,9 +6,9 @@ use mathlib.Core.List.{List, []}
 use Prim.Native.Nat.{ℕ, suc, _+_, _*_, _≤_}
 use native.Mathlib.Omega.{arith}
 use lib.ListN.{length}
-use Rattle.tokens.specs.Place.{past}
-use Rattle.tokens.specs.Places.{places-in}
-use Rattle.tokens.specs.Tokens.{part}
+use Rattle.texts.specs.Place.{past}
+use Rattle.texts.specs.Places.{places-in}
+use Rattle.texts.specs.Parts.{part}
 use Rattle.meaning.specs.Rules.{Bytes, Term, Atom}
 use Rattle.meaning.specs.Values.{Value}
 use Rattle.grammar.specs.Trees.{empty, _then_, count, Heads, Rule as Tree, fact, clause, Program}

@@ -5,9 +5,9 @@ use mathlib.Core.Option.{Option, some}
 use mathlib.Core.List.{List, _++_}
 use Prim.Native.Nat.{ℕ, suc, _+_, _-_, _*_, _≤_}
 use lib.ListN.{length}
-use Rattle.tokens.specs.Place.{Stands}
-use Rattle.tokens.specs.declared.place.Place.{Place}
-use Rattle.tokens.specs.Places.{places-in}
+use Rattle.texts.specs.Place.{Stands}
+use Rattle.texts.specs.declared.place.Place.{Place}
+use Rattle.texts.specs.Places.{places-in}
 use Rattle.reading.specs.Reading.{refused}
 use Rattle.meaning.specs.Rules.{Bytes}
 use Rattle.grammar.specs.Trees.{Sequence, _then_, count, Literal as LiteralTree, Heads, clause, Program}

@@ -4,7 +4,7 @@ use mathlib.Core.Bool.{false}
 use mathlib.Core.List.{List, []}
 use Prim.Native.Nat.{ℕ, _+_, _-_, _*_, _≤_}
 use lib.ListN.{length}
-use Rattle.tokens.specs.Places.{places-in}
+use Rattle.texts.specs.Places.{places-in}
 use Rattle.meaning.specs.Rules.{Bytes, Term, Atom}
 use Rattle.meaning.specs.Values.{Value}
 use Rattle.grammar.specs.Sizes.{most-heads}

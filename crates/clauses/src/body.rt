@@ -5,6 +5,7 @@ ghost use lib.ListN.{length};
 ghost use Rattle.tables.specs.Stored.{with-row};
 ghost use Rattle.tables.specs.Layout.{literal-stride};
 ghost use Rattle.clauses.specs.Bodies.{stoppedBody, goneBody, ReadyBody, FillsBody};
+use lexis::kind::DOT;
 use literals::literal::literal_at;
 use syntax::separator::separator_at;
 use syntax::token::Progress;
@@ -12,9 +13,8 @@ use tables::LITERAL;
 use tables::row::put_row;
 use terms::cursor::Cursor;
 use terms::cursor::onward;
-use tokens::kind::DOT;
-use tokens::place::Place;
-use tokens::sizes::MOST_LITERALS;
+use texts::place::Place;
+use texts::sizes::MOST_LITERALS;
 
 // How many literals there are, and how many variables have been met behind them.
 pub struct BodyRead {

@@ -7,6 +7,9 @@ use crate::body::body_at;
 use crate::body::gone;
 use crate::heads::FirstToken;
 use crate::heads::heads_at;
+use lexis::kind::DOT;
+use lexis::kind::END;
+use lexis::kind::IF;
 use syntax::token::Progress;
 use syntax::token::token_at;
 use syntax::word::OVER;
@@ -14,13 +17,10 @@ use syntax::word::WRONG;
 use tables::ROWS;
 use terms::cursor::Cursor;
 use terms::cursor::onward;
-use tokens::kind::DOT;
-use tokens::kind::END;
-use tokens::kind::IF;
-use tokens::place::Place;
-use tokens::place::TEXT_START;
-use tokens::place::past;
-use tokens::sizes::MOST_HEADS;
+use texts::place::Place;
+use texts::place::TEXT_START;
+use texts::place::past;
+use texts::sizes::MOST_HEADS;
 
 // A rule: how many heads it has, how many literals in its body, and how many variables. Where `ended`, there is none, because the text ends.
 pub struct RuleRead {

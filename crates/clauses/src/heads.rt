@@ -3,6 +3,7 @@ ghost use mathlib.Core.Path.{_≡_};
 ghost use Rattle.clauses.specs.Heads.{soFar, ReadyHeads, ReadsHeads};
 use crate::body::put_literal;
 use atoms::atom::atom_at;
+use lexis::kind::BAR;
 use rows::literal::atom_row;
 use syntax::token::Progress;
 use syntax::token::TokenRead;
@@ -11,9 +12,8 @@ use tables::HEAD;
 use tables::ROWS;
 use terms::cursor::Cursor;
 use terms::cursor::onward;
-use tokens::kind::BAR;
-use tokens::place::past;
-use tokens::sizes::MOST_HEADS;
+use texts::place::past;
+use texts::sizes::MOST_HEADS;
 
 // The first token of the rule with a number.
 pub struct FirstToken {

@@ -11,14 +11,13 @@ use lib.Dec.{leb, ltb, eqb}
 use lib.ListN.{length, getD, set, length-set, length-take, length-drop}
 use lib.Seq.{take-suc-set, take-set-le, drop-set-lt, getD-set-same, getD-set-other}
 use borrow.Author.Tests.{eqb-true, eqb-false, ltb-true, ltb-false, leb-false}
-use Rattle.tokens.specs.declared.place.Place.{Place}
-use Rattle.tokens.specs.Place.{text-start, with-len}
-use Rattle.tokens.specs.Tokens.{part}
+use Rattle.texts.specs.declared.place.Place.{Place}
+use Rattle.texts.specs.Place.{text-start, with-len, Stands as PlaceStands}
+use Rattle.texts.specs.Parts.{part}
 use Rattle.reading.specs.Reading.{Placed, Answer}
 use Rattle.reading.proofs.Lists.{none-some, some-inj}
-use Rattle.tokens.specs.Place.{Stands as PlaceStands}
-use Rattle.tokens.specs.Places.{span-from}
-use Rattle.tokens.proofs.Counting.{start-stands}
+use Rattle.texts.specs.Places.{span-from}
+use Rattle.texts.proofs.Counting.{start-stands}
 use Rattle.terms.specs.Cursors.{variables-size}
 use Rattle.meaning.specs.Sets.{In}
 use Rattle.meaning.specs.Rules.{Bytes, Rule as MeantRule}

@@ -4,8 +4,8 @@ use mathlib.Core.Bool.{Bool, true, false}
 use mathlib.Core.Option.{some}
 use mathlib.Core.List.{List, []}
 use Prim.Native.Nat.{ℕ, _+_, _-_, _≤_}
-use Rattle.tokens.specs.Place.{Stands}
-use Rattle.tokens.specs.declared.place.Place.{Place}
+use Rattle.texts.specs.Place.{Stands}
+use Rattle.texts.specs.declared.place.Place.{Place}
 use Rattle.reading.specs.Reading.{tree, refused}
 use Rattle.meaning.specs.Rules.{Bytes}
 use Rattle.grammar.specs.Trees.{_then_, Atom, head, fact, Program}

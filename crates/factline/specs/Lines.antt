@@ -4,10 +4,10 @@ use mathlib.Core.Bool.{true}
 use mathlib.Core.List.{List, _∷_}
 use Prim.Native.Nat.{ℕ, _+_, _*_, _-_, _≤_, _<_}
 use lib.ListN.{length, take, getD, set}
-use Rattle.tokens.specs.declared.place.Place.{Place}
-use Rattle.tokens.specs.Place.{text-start}
-use Rattle.tokens.specs.Places.{number-limit}
-use Rattle.tokens.specs.Tokens.{part}
+use Rattle.texts.specs.declared.place.Place.{Place}
+use Rattle.texts.specs.Place.{text-start}
+use Rattle.texts.specs.Places.{number-limit}
+use Rattle.texts.specs.Parts.{part}
 use Rattle.reading.specs.Reading.{tree, refused}
 use Rattle.meaning.specs.Rules.{Bytes}
 use Rattle.grammar.specs.Trees.{count, Program}

@@ -2,18 +2,18 @@
 ghost use mathlib.Core.Path.{_≡_};
 ghost use Rattle.factline.specs.Facts.{noFact, goneFact, ReadyFact, ReadsFact};
 use atoms::atom::atom_at;
+use lexis::kind::DOT;
+use lexis::kind::END;
+use lexis::kind::IF;
 use rows::literal::AtomCodes;
 use syntax::token::Progress;
 use syntax::token::token_at;
 use syntax::word::WRONG;
 use terms::cursor::Cursor;
-use tokens::kind::DOT;
-use tokens::kind::END;
-use tokens::kind::IF;
-use tokens::place::Place;
-use tokens::place::TEXT_START;
-use tokens::place::past;
-use tokens::sizes::MOST_ARGUMENTS;
+use texts::place::Place;
+use texts::place::TEXT_START;
+use texts::place::past;
+use texts::sizes::MOST_ARGUMENTS;
 
 // A fact's numbers, and where its first token starts. Where `ended`, there is none, because the line ends.
 pub struct FactRead {

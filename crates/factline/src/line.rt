@@ -12,12 +12,12 @@ use tables::FACT;
 use tables::row::put_row;
 use terms::cursor::Cursor;
 use terms::cursor::onward;
-use tokens::parts::part;
-use tokens::place::Place;
-use tokens::place::TEXT_START;
-use tokens::places::PLACE;
-use tokens::sizes::MOST_FACTS;
-use tokens::sizes::MOST_VARIABLES;
+use texts::parts::part;
+use texts::place::Place;
+use texts::place::TEXT_START;
+use texts::places::PLACE;
+use texts::sizes::MOST_FACTS;
+use texts::sizes::MOST_VARIABLES;
 
 // How many facts there are; or the refusal and its place on the line.
 pub struct FactsRead {

@@ -2,7 +2,7 @@
 use mathlib.Core.Path.{_≡_, refl}
 use mathlib.Core.List.{List}
 use Prim.Native.Nat.{ℕ}
-use Rattle.tokens.specs.declared.place.Place.{Place}
+use Rattle.texts.specs.declared.place.Place.{Place}
 use Rattle.stages.specs.Parts.{in-text}
 use Rattle.stages.specs.Stage.{Outcome, on, stop, Stage}
 use Rattle.promise.specs.Answer as paper

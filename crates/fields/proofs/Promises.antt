@@ -7,7 +7,7 @@ use mathlib.Core.List.{List, _++_, map}
 use Prim.Native.Nat.{ℕ, _≤_}
 use native.Mathlib.Omega.{arith}
 use lib.ListN.{length, getD, take, drop}
-use Rattle.tokens.specs.declared.place.Place.{Place}
+use Rattle.texts.specs.declared.place.Place.{Place}
 use Rattle.meaning.specs.Rules.{Bytes, disjunctive}
 use Rattle.meaning.specs.Values.{Value, values}
 use Rattle.meaning.specs.Instances.{Set}

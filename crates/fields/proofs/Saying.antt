@@ -5,7 +5,7 @@ use mathlib.Core.List.{List, []}
 use Prim.Native.Nat.{ℕ, zero, suc, _^_, _≤_, _<_}
 use native.Mathlib.Omega.{arith}
 use lib.ListN.{length, getD, take, replicate}
-use Rattle.tokens.specs.declared.place.Place.{Place}
+use Rattle.texts.specs.declared.place.Place.{Place}
 use Rattle.stages.specs.Parts.{in-text}
 use Rattle.grammar.specs.Sizes.{most-literals}
 use Rattle.derived_set.specs.Members.{places, holds, WellKept, no-atoms}

@@ -2,8 +2,8 @@
 use mathlib.Core.List.{List}
 use Prim.Native.Nat.{ℕ}
 use lib.ListN.{replicate}
-use Rattle.tokens.specs.declared.place.Place.{Place}
-use Rattle.tokens.specs.Place.{text-start}
+use Rattle.texts.specs.declared.place.Place.{Place}
+use Rattle.texts.specs.Place.{text-start}
 use Rattle.grammar.specs.Sizes.{most-literals}
 use Rattle.derived_set.specs.declared.Derived.{Derived}
 use Rattle.derived_set.specs.Members.{no-atoms}

@@ -2,9 +2,9 @@
 ghost use mathlib.Core.Path.{_≡_};
 ghost use Rattle.fields.specs.Values.{refused, accepted, unsatisfied, smaller, claimed};
 use derived_set::Derived;
-use tokens::place::Place;
-use tokens::place::TEXT_START;
-use tokens::sizes::MOST_LITERALS;
+use texts::place::Place;
+use texts::place::TEXT_START;
+use texts::sizes::MOST_LITERALS;
 
 // The two lent texts.
 pub enum Text {

@@ -2,12 +2,12 @@
 ghost use mathlib.Core.Path.{_≡_};
 ghost use Prim.Native.Nat.{_<_};
 ghost use lib.ListN.{length, getD};
-ghost use Rattle.tokens.specs.Place.{Countable};
+ghost use Rattle.texts.specs.Place.{Countable};
 ghost use Rattle.fields.specs.Parts.{fact-place};
-use tokens::place::Place;
-use tokens::place::along;
-use tokens::place::with_len;
-use tokens::places::number_at;
+use texts::place::Place;
+use texts::place::along;
+use texts::place::with_len;
+use texts::places::number_at;
 
 // Where fact k of the candidate stands in the output, by its line and by the tables of all facts' starts and lengths.
 pub fn fact_part(line: Place, starts: &[u32], lengths: &[u32], k: usize) -> Place

@@ -2,8 +2,8 @@
 ghost use Rattle.fields.specs.Parts.{Cut, HandedBack};
 use crate::answer::Part;
 use crate::answer::Text;
-use tokens::parts::least;
-use tokens::place::Place;
+use texts::parts::least;
+use texts::place::Place;
 
 // The bytes of a place, in the text itself; of a place that reaches past the text, those that are there.
 fn cut(text: &[u8], place: Place) -> &[u8]

@@ -3,7 +3,7 @@ use mathlib.Core.Path.{_≡_}
 use mathlib.Core.List.{List}
 use Prim.Native.Nat.{ℕ, _≤_}
 use lib.ListN.{length, take}
-use Rattle.tokens.specs.Sizes.{most-text}
+use Rattle.texts.specs.Sizes.{most-text}
 use Rattle.meaning.specs.Rules.{Bytes}
 use Rattle.tables.specs.Rows.{from, fact-predicate}
 use Rattle.tables.specs.WellFormed.{FactTable}

@@ -2,8 +2,8 @@
 ghost use mathlib.Core.Path.{_≡_};
 ghost use Prim.Native.Nat.{_≤_};
 use libc::STDIN_FILENO;
-use tokens::parts::bytes_in;
-use tokens::place::span_from;
+use texts::parts::bytes_in;
+use texts::place::span_from;
 
 // The most bytes of a frame's first line.
 pub const MOST_LINE: usize = 64;

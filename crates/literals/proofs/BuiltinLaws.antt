@@ -7,8 +7,8 @@ use Prim.Native.Nat.{ℕ, _-_, _≤_, _<_}
 use native.Mathlib.Omega.{arith}
 use lib.Dec.{leb}
 use lib.ListN.{length}
-use Rattle.tokens.specs.Place.{past}
-use Rattle.tokens.specs.declared.place.Place.{Place}
+use Rattle.texts.specs.Place.{past}
+use Rattle.texts.specs.declared.place.Place.{Place}
 use Rattle.meaning.specs.Domain.{Operation}
 use Rattle.meaning.specs.Rules.{Bytes, Term, Literal, builtin, Side}
 use Rattle.meaning.specs.Values.{Value}

@@ -8,10 +8,10 @@ use native.Mathlib.Omega.{arith}
 use lib.Dec.{eqb, leb}
 use lib.ListN.{length}
 use borrow.Author.Tests.{eqb-true, eqb-false, leb-true, leb-false}
-use Rattle.tokens.specs.Place.{past}
-use Rattle.tokens.specs.declared.place.Place.{Place}
-use Rattle.tokens.specs.Places.{places-in}
-use Rattle.tokens.specs.Tokens.{part}
+use Rattle.texts.specs.Place.{past}
+use Rattle.texts.specs.declared.place.Place.{Place}
+use Rattle.texts.specs.Places.{places-in}
+use Rattle.texts.specs.Parts.{part}
 use Rattle.meaning.specs.Rules.{Bytes, Term, Literal}
 use Rattle.meaning.specs.Values.{Value}
 use Rattle.codes.specs.Codes.{first-name}

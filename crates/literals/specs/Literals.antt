@@ -4,9 +4,9 @@ use mathlib.Core.Bool.{Bool, false, _||_}
 use mathlib.Core.List.{List, _∷_}
 use Prim.Native.Nat.{ℕ}
 use lib.Dec.{eqb, leb}
-use Rattle.tokens.specs.declared.kind.Kind.the-variants.{Number, String}
-use Rattle.tokens.specs.Kind.{kindNumber}
-use Rattle.tokens.specs.Places.{places-in}
+use Rattle.lexis.specs.declared.kind.Kind.the-variants.{Number, String}
+use Rattle.lexis.specs.Kind.{kindNumber}
+use Rattle.texts.specs.Places.{places-in}
 use Rattle.meaning.specs.Rules.{Bytes}
 use Rattle.syntax.specs.declared.token.TokenRead.{TokenRead}
 use Rattle.syntax.specs.Text.{tokenRead}

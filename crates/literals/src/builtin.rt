@@ -1,6 +1,8 @@
 // A built-in atom from its left term's number on: a comparison, a term, and perhaps an operation and a term, read as a row.
 ghost use mathlib.Core.Path.{_≡_};
 ghost use Rattle.literals.specs.Builtins.{stoppedLiteral, goneLiteral, ReadyBehind, ReadySide, behind-left, ReadsTail, ReadsSide, ReadsCompared};
+use lexis::kind::MINUS;
+use lexis::kind::TIMES;
 use rows::literal::built_in_row;
 use rows::literal::comparison_code;
 use rows::literal::operation_code;
@@ -14,10 +16,8 @@ use terms::cursor::Cursor;
 use terms::cursor::onward;
 use terms::term::TermRead;
 use terms::term::term_at;
-use tokens::kind::MINUS;
-use tokens::kind::TIMES;
-use tokens::place::Place;
-use tokens::place::past;
+use texts::place::Place;
+use texts::place::past;
 
 // A literal's row, and how many variables have been met behind it.
 pub struct LiteralRead {

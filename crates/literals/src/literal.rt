@@ -12,6 +12,11 @@ use atoms::atom::atom_at;
 use atoms::atom::minus_atom;
 use atoms::atom::named_atom;
 use codes::FIRST_NAME;
+use lexis::kind::MINUS;
+use lexis::kind::NAME;
+use lexis::kind::NOT;
+use lexis::kind::NUMBER;
+use lexis::kind::STRING;
 use rows::literal::atom_row;
 use rows::term::name_number;
 use syntax::sign::is_comparison;
@@ -26,12 +31,7 @@ use terms::cursor::Cursor;
 use terms::cursor::onward;
 use terms::term::negative_number;
 use terms::term::term_at;
-use tokens::kind::MINUS;
-use tokens::kind::NAME;
-use tokens::kind::NOT;
-use tokens::kind::NUMBER;
-use tokens::kind::STRING;
-use tokens::place::past;
+use texts::place::past;
 
 // The literal of an atom that has been read, or was refused.
 fn of_atom(sort: u64, read: AtomRead) -> LiteralRead

@@ -10,19 +10,19 @@ use crate::tell::size;
 use fields::answer::Answer;
 use fields::answer::Text;
 use plain::Written;
-use tokens::parts::part;
-use tokens::parts::same_bytes;
-use tokens::place::Place;
-use tokens::sizes::MOST_ARGUMENTS;
-use tokens::sizes::MOST_FACTS;
-use tokens::sizes::MOST_HEADS;
-use tokens::sizes::MOST_LITERALS;
-use tokens::sizes::MOST_NAME;
-use tokens::sizes::MOST_NUMBER;
-use tokens::sizes::MOST_RULES;
-use tokens::sizes::MOST_TESTED_FACTS;
-use tokens::sizes::MOST_TEXT;
-use tokens::sizes::MOST_VARIABLES;
+use texts::parts::part;
+use texts::parts::same_bytes;
+use texts::place::Place;
+use texts::sizes::MOST_ARGUMENTS;
+use texts::sizes::MOST_FACTS;
+use texts::sizes::MOST_HEADS;
+use texts::sizes::MOST_LITERALS;
+use texts::sizes::MOST_NAME;
+use texts::sizes::MOST_NUMBER;
+use texts::sizes::MOST_RULES;
+use texts::sizes::MOST_TESTED_FACTS;
+use texts::sizes::MOST_TEXT;
+use texts::sizes::MOST_VARIABLES;
 
 // The file as its argument names it, the place in it, and the refusal's number.
 fn head(argument: usize, place: Place, refusal: u8) {

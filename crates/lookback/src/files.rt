@@ -1,5 +1,5 @@
 // The program's arguments, and the files that they name.
-use tokens::parts::same_bytes;
+use texts::parts::same_bytes;
 
 // The argument that says what is asked for.
 pub const WORD: usize = 1;
@@ -78,5 +78,5 @@ pub fn number_argument(i: usize) -> u64 {
     if !is_digits(&text[..n]) {
         return NO_NUMBER;
     }
-    tokens::number::value(&text[..n])
+    lexis::number::value(&text[..n])
 }

@@ -5,7 +5,7 @@ use files::CODE;
 use files::OUTPUT;
 use files::PROGRAM;
 use files::WORD;
-use tokens::parts::same_bytes;
+use texts::parts::same_bytes;
 
 mod fault;
 mod files;

@@ -4,10 +4,10 @@ use crate::quote;
 use crate::tell::quoted;
 use crate::tell::say;
 use report::word::starts_with;
-use tokens::parts::bytes_in;
-use tokens::parts::part;
-use tokens::place::Place;
-use tokens::place::span_from;
+use texts::parts::bytes_in;
+use texts::parts::part;
+use texts::place::Place;
+use texts::place::span_from;
 
 // The last line of a text, with its newline where it has one; empty where there is no line.
 fn last_line(text: &[u8]) -> &[u8] {

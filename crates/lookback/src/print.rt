@@ -5,7 +5,7 @@ use fields::answer::Answer;
 use fields::answer::Kind;
 use libc::STDOUT_FILENO;
 use plain::Written;
-use tokens::sizes::MOST_LITERALS;
+use texts::sizes::MOST_LITERALS;
 
 fn put(bytes: &[u8]) {
     io::write_all(STDOUT_FILENO, bytes);

@@ -1,6 +1,6 @@
 // Quotes: which tokens start with one, and what is told of one that opens no string.
 use crate::tell::say;
-use tokens::parts::same_bytes;
+use texts::parts::same_bytes;
 
 // Is the token a string, or a quote alone?
 pub fn starts(token: &[u8]) -> bool {

@@ -1,6 +1,6 @@
 // Standard error: words, numbers, sizes as the paper writes them, and bytes of a text shown so that any terminal takes them as one line.
 use libc::STDERR_FILENO;
-use tokens::parts::least;
+use texts::parts::least;
 
 // The most bytes of a part that are shown.
 const MOST_SHOWN: usize = 60;

@@ -7,7 +7,7 @@ use native.Mathlib.Omega.{arith}
 use native.Mathlib.Numerals.{add-one}
 use lib.Dec.{eqb, ltb}
 use borrow.Author.Tests.{eqb-true, eqb-false, ltb-true, ltb-false}
-use Rattle.tokens.specs.declared.place.Span.{Span}
+use Rattle.texts.specs.declared.place.Span.{Span}
 use Rattle.meaning.specs.Rules.{Bytes}
 use Rattle.codes.proofs.Names.{distinct-more}
 use Rattle.names.specs.Texts.{bytes-at}

@@ -5,8 +5,8 @@ use mathlib.Core.List.{List, [], _∷_, _++_}
 use Prim.Native.Nat.{ℕ}
 use native.Mathlib.Omega.{arith}
 use lib.ListN.{length}
-use Rattle.tokens.specs.declared.place.Span.{Span}
-use Rattle.tokens.specs.Places.{span-from}
+use Rattle.texts.specs.declared.place.Span.{Span}
+use Rattle.texts.specs.Places.{span-from}
 use Rattle.meaning.specs.Rules.{Bytes}
 use Rattle.names.specs.declared.Found.{Found}
 use Rattle.names.specs.declared.Found.the-variants.{At, Nothing}

@@ -5,8 +5,8 @@ use Prim.Native.Nat.{ℕ, _+_, _≤_, _<_}
 use native.Mathlib.Omega.{arith}
 use lib.ListN.{length, getD, set, length-set}
 use lib.Seq.{getD-set-same, getD-set-other}
-use Rattle.tokens.specs.declared.place.Span.{Span}
-use Rattle.tokens.specs.Places.{span-from}
+use Rattle.texts.specs.declared.place.Span.{Span}
+use Rattle.texts.specs.Places.{span-from}
 use Rattle.names.specs.Table.{row, count, head, link, span-of, with-row, Addable}
 
 other : (l : List ℕ) (i j a : ℕ) → (j ≡ i → ⊥) → getD (set l i a) j 0 ≡ getD l j 0

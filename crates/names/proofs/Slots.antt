@@ -4,7 +4,7 @@ use mathlib.Core.List.{[], _∷_}
 use Prim.Native.Nat.{ℕ, _+_, _*_, _%_, _≤_, _<_}
 use native.Mathlib.Omega.{arith}
 use lib.ListN.{length, drop, getD, drop-of-length-le}
-use Rattle.tokens.proofs.Prefix.{drop-at}
+use Rattle.texts.proofs.Prefix.{drop-at}
 use Rattle.meaning.specs.Rules.{Bytes}
 use Rattle.names.specs.Table.{slots, factor, slot-from, slot-of}
 

@@ -8,9 +8,9 @@ use lib.Dec.{ltb}
 use lib.ListN.{length, take, drop, length-take, length-drop, drop-of-length-le}
 use lib.Seq.{take-nil}
 use borrow.Author.Tests.{ltb-true, ltb-false, lt-ltb, le-ltb}
-use Rattle.tokens.specs.declared.place.Span.{Span}
-use Rattle.tokens.specs.Tokens.{bytes-in}
-use Rattle.tokens.specs.Places.{span-from}
+use Rattle.texts.specs.declared.place.Span.{Span}
+use Rattle.texts.specs.Parts.{bytes-in}
+use Rattle.texts.specs.Places.{span-from}
 use Rattle.meaning.specs.Rules.{Bytes}
 use Rattle.names.specs.Texts.{bytes-at}
 use Rattle.names.specs.Table.{span-of, name-at}

@@ -5,7 +5,7 @@ use mathlib.Core.Option.{some}
 use mathlib.Core.List.{List, [], _∷_, _++_}
 use Prim.Native.Nat.{ℕ, _≤_}
 use lib.ListN.{length, getElem?}
-use Rattle.tokens.specs.Sizes.{most-text}
+use Rattle.texts.specs.Sizes.{most-text}
 use Rattle.meaning.specs.Rules.{Bytes}
 use Rattle.names.specs.Table.{capacity, names-of, Table}
 use Rattle.names.specs.declared.Found.{Found}

@@ -4,9 +4,9 @@ use mathlib.Core.Path.{_≡_}
 use mathlib.Core.List.{List, [], _∷_, _++_}
 use Prim.Native.Nat.{ℕ, zero, suc, _+_, _-_, _*_, _/_, _%_, _≤_, _<_, min}
 use lib.ListN.{length, getD, set}
-use Rattle.tokens.specs.declared.place.Span.{Span}
-use Rattle.tokens.specs.Places.{span-from, number-limit}
-use Rattle.tokens.specs.Sizes.{most-text}
+use Rattle.texts.specs.declared.place.Span.{Span}
+use Rattle.texts.specs.Places.{span-from, number-limit}
+use Rattle.texts.specs.Sizes.{most-text}
 use Rattle.meaning.specs.Rules.{Bytes}
 use Rattle.codes.specs.Codes.{Distinct}
 use Rattle.names.specs.Texts.{bytes-at}

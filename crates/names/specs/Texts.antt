@@ -3,9 +3,9 @@ use Prim.Native.Nat.{_-_}
 use mathlib.Core.Bool.{cond}
 use lib.Dec.{ltb}
 use lib.ListN.{length}
-use Rattle.tokens.specs.declared.place.Span.{Span}
-use Rattle.tokens.specs.Tokens.{bytes-in}
-use Rattle.tokens.specs.Places.{span-from}
+use Rattle.texts.specs.declared.place.Span.{Span}
+use Rattle.texts.specs.Parts.{bytes-in}
+use Rattle.texts.specs.Places.{span-from}
 use Rattle.meaning.specs.Rules.{Bytes}
 
 -- the bytes of a span: in the program where it starts there, else in the output

@@ -2,14 +2,14 @@
 // The bytes stay where they are, in the program or in the solver's output.
 ghost use mathlib.Core.Path.{_≡_};
 ghost use lib.ListN.{length};
-ghost use Rattle.tokens.specs.Places.{span-from};
+ghost use Rattle.texts.specs.Places.{span-from};
 ghost use Rattle.names.specs.Texts.{bytes-at};
 ghost use Rattle.names.specs.Table.{most-names, few-names, Table, names-of, bytes-of, slot-of};
 ghost use Rattle.names.specs.Numbering.{Empty, Finds, Interns};
 use text::bytes_at;
-use tokens::parts::same_bytes;
-use tokens::place::span_from;
-use tokens::sizes::MOST_TEXT;
+use texts::parts::same_bytes;
+use texts::place::span_from;
+use texts::sizes::MOST_TEXT;
 
 pub mod bytewise;
 mod table;

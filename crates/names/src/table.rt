@@ -4,11 +4,11 @@ ghost use Prim.Native.Nat.{_≤_, _<_};
 ghost use lib.ListN.{length};
 ghost use Rattle.names.specs.Table.{slots, first-row, capacity, slot-of, count, head, link, span-of, with-row, Addable};
 use crate::MOST_NAMES;
-use tokens::parts::least;
-use tokens::place::Span;
-use tokens::place::span_from;
-use tokens::places::number_at;
-use tokens::places::put_number;
+use texts::parts::least;
+use texts::place::Span;
+use texts::place::span_from;
+use texts::places::number_at;
+use texts::places::put_number;
 
 const COUNT: usize = 0;
 

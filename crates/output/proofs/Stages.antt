@@ -6,16 +6,16 @@ use Prim.Native.Nat.{ℕ, _+_, _*_, _≤_, _<_, _-_}
 use native.Mathlib.Omega.{arith}
 use lib.Dec.{eqb}
 use lib.ListN.{length, length-take, length-drop}
-use Rattle.tokens.specs.declared.place.Span.{Span}
-use Rattle.tokens.proofs.Counting.{as-from, countable, along-stands}
+use Rattle.texts.specs.declared.place.Span.{Span}
+use Rattle.texts.proofs.Counting.{as-from, countable, along-stands}
 use borrow.Author.Tests.{eq-eqb, ne-eqb}
-use Rattle.tokens.specs.declared.place.Place.{Place}
-use Rattle.tokens.specs.Tokens.{part}
+use Rattle.texts.specs.declared.place.Place.{Place}
+use Rattle.texts.specs.Parts.{part}
 use Rattle.reading.specs.Reading.{refused as refused-tree}
 use Rattle.meaning.specs.Rules.{Bytes}
 use Rattle.grammar.specs.Trees.{Program}
-use Rattle.tokens.specs.Place.{text-start, along, Countable}
-use Rattle.tokens.specs.Sizes.{most-text}
+use Rattle.texts.specs.Place.{text-start, along, Countable}
+use Rattle.texts.specs.Sizes.{most-text}
 use Rattle.syntax.specs.Programs.{ReadAs}
 use Rattle.rule_places.proofs.Inside.{refused-inside}
 use Rattle.report.specs.declared.Report.{Report as ReportRead}

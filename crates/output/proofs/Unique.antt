@@ -4,9 +4,9 @@ use mathlib.Core.Bool.{true}
 use Prim.Native.Nat.{ℕ, _<_}
 use native.Mathlib.Omega.{arith}
 use lib.ListN.{length}
-use Rattle.tokens.specs.declared.place.Place.{Place}
-use Rattle.tokens.specs.Tokens.{part}
-use Rattle.tokens.specs.Sizes.{most-text}
+use Rattle.texts.specs.declared.place.Place.{Place}
+use Rattle.texts.specs.Parts.{part}
+use Rattle.texts.specs.Sizes.{most-text}
 use Rattle.meaning.specs.Rules.{Bytes}
 use Rattle.grammar.specs.Sizes.{language}
 use Rattle.grammar.proofs.Theorems.{one-reading}

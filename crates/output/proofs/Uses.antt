@@ -4,12 +4,12 @@ use mathlib.Core.Bool.{true}
 use Prim.Native.Nat.{ℕ, _+_, _≤_, _<_}
 use native.Mathlib.Omega.{arith}
 use lib.ListN.{length, length-take, length-drop}
-use Rattle.tokens.proofs.Counting.{start-stands, from-stands}
-use Rattle.tokens.specs.Place.{Stands}
+use Rattle.texts.proofs.Counting.{start-stands, from-stands}
+use Rattle.texts.specs.Place.{Stands}
 use Rattle.output.proofs.Stages.{line-straight}
-use Rattle.tokens.specs.declared.place.Place.{Place}
-use Rattle.tokens.specs.Tokens.{part}
-use Rattle.tokens.specs.Sizes.{most-text}
+use Rattle.texts.specs.declared.place.Place.{Place}
+use Rattle.texts.specs.Parts.{part}
+use Rattle.texts.specs.Sizes.{most-text}
 use Rattle.reading.specs.Reading.{tree}
 use Rattle.meaning.specs.Rules.{Bytes}
 use Rattle.grammar.specs.Trees.{count, Program}

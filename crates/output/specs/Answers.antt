@@ -3,10 +3,10 @@ use mathlib.Core.Path.{_≡_}
 use mathlib.Core.Bool.{cond}
 use Prim.Native.Nat.{ℕ, _+_}
 use lib.Dec.{eqb}
-use Rattle.tokens.specs.declared.place.Place.{Place}
+use Rattle.texts.specs.declared.place.Place.{Place}
 use Rattle.meaning.specs.Rules.{Bytes}
 use Rattle.grammar.specs.Trees.{count}
-use Rattle.tokens.specs.Place.{text-start, with-len, along}
+use Rattle.texts.specs.Place.{text-start, with-len, along}
 use Rattle.report.specs.declared.word.Word.{Word}
 use Rattle.report.specs.declared.word.Word.the-variants.{Answer, Inconsistent, Unknown}
 use Rattle.report.specs.declared.around.Found.the-variants.{End, Line}

@@ -3,11 +3,11 @@ use mathlib.Core.Bool.{true}
 use mathlib.Core.List.{List}
 use Prim.Native.Nat.{ℕ, _+_, _≤_, _<_}
 use lib.ListN.{length, drop}
-use Rattle.tokens.specs.declared.place.Place.{Place}
-use Rattle.tokens.specs.Tokens.{part}
-use Rattle.tokens.specs.Sizes.{most-text}
-use Rattle.tokens.specs.Run.{inLine, prefixLen}
-use Rattle.tokens.specs.Place.{place-from, Stands}
+use Rattle.texts.specs.declared.place.Place.{Place}
+use Rattle.texts.specs.Parts.{part}
+use Rattle.texts.specs.Sizes.{most-text}
+use Rattle.texts.specs.Prefix.{inLine, prefixLen}
+use Rattle.texts.specs.Place.{place-from, Stands}
 use Rattle.meaning.specs.Values.{Value}
 use Rattle.meaning.specs.Rules.{Bytes, Fact}
 use Rattle.grammar.specs.Trees.{Program}

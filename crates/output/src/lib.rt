@@ -1,7 +1,7 @@
 // The solver's output as a whole: its report, the facts line behind ANSWER, and the lines behind the report.
 ghost use mathlib.Core.Path.{_≡_};
 ghost use Prim.Native.Nat.{_+_};
-ghost use Rattle.tokens.specs.Place.{Stands, Countable};
+ghost use Rattle.texts.specs.Place.{Stands, Countable};
 ghost use Rattle.output.specs.Answers.{refused, reported, counted-on, line-fields, Closes};
 ghost use Rattle.output.specs.Tables.{tables, Lent, FillsOutput};
 use factline::line::FactsRead;
@@ -11,11 +11,11 @@ use report::around::Found;
 use report::around::out_of_place;
 use report::find_report;
 use report::word::Word;
-use tokens::place::Place;
-use tokens::place::TEXT_START;
-use tokens::place::along;
-use tokens::place::with_len;
-use tokens::sizes::MOST_TEXT;
+use texts::place::Place;
+use texts::place::TEXT_START;
+use texts::place::along;
+use texts::place::with_len;
+use texts::sizes::MOST_TEXT;
 
 // The refusal of an output that has more.
 const TOO_LONG: u8 = 1;

@@ -10,7 +10,7 @@ use lib.Seq.{sets, sets-eq, drop-length, length-take-le}
 use Rattle.meaning.specs.Rules.{Bytes}
 use Rattle.meaning.proofs.Sets.{nothing-long}
 use Rattle.grammar.specs.Trees.{Program}
-use Rattle.tokens.specs.Place.{text-start}
+use Rattle.texts.specs.Place.{text-start}
 use Rattle.plainform.specs.PlainBytes.{ReadAs, plain-bytes}
 use Rattle.plainform.proofs.Theorems.{plain-no-longer}
 use Rattle.plaintokens.specs.Put.{Put}

@@ -1,6 +1,6 @@
 -- The part of the writer's answer has the line and the column of its start.
-use Rattle.tokens.specs.Place.{Stands}
-use Rattle.tokens.proofs.Counting.{start-stands}
+use Rattle.texts.specs.Place.{Stands}
+use Rattle.texts.proofs.Counting.{start-stands}
 use Rattle.meaning.specs.Rules.{Bytes}
 use Rattle.program.proofs.Placed.{refused-placed}
 use Rattle.plain.specs.declared.Written.{Written}

@@ -9,7 +9,7 @@ use Rattle.stages.specs.Stage.{on, stop}
 use Rattle.stages.proofs.Unique.{on-stop, on-inj}
 use Rattle.program.proofs.Unique.{program-one}
 use Rattle.plainform.specs.PlainBytes.{plain-bytes}
-use Rattle.tokens.specs.Place.{text-start}
+use Rattle.texts.specs.Place.{text-start}
 use Rattle.plain.specs.declared.Written.{Written}
 use Rattle.plain.specs.Answer.{answer, filled, WritesProgram, short, writes, Writes, refuses, takes}
 

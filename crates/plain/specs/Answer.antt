@@ -3,10 +3,10 @@ use mathlib.Core.Bool.{false}
 use mathlib.Core.List.{_++_}
 use Prim.Native.Nat.{ℕ, _≤_, _<_}
 use lib.ListN.{length, drop}
-use Rattle.tokens.specs.declared.place.Place.{Place}
+use Rattle.texts.specs.declared.place.Place.{Place}
 use Rattle.meaning.specs.Rules.{Bytes}
 use Rattle.grammar.specs.Trees.{Program}
-use Rattle.tokens.specs.Place.{text-start}
+use Rattle.texts.specs.Place.{text-start}
 use Rattle.stages.specs.Parts.{Part}
 use Rattle.stages.specs.Stage.{on, stop}
 use Rattle.program.specs.Stage.{ProgramStage}

@@ -10,8 +10,8 @@ use plaintokens::write_tokens;
 use program::read_program;
 use program::space::literal_table;
 use program::space::rule_table;
-use tokens::place::Place;
-use tokens::place::TEXT_START;
+use texts::place::Place;
+use texts::place::TEXT_START;
 
 // The writer's answer: the number of a refusal and its part of the program; or 0, and the length of the plain form.
 pub struct Written {

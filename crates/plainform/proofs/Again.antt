@@ -8,17 +8,17 @@ use native.Mathlib.Numerals.{add-one}
 use native.Mathlib.Omega.{arith}
 use lib.ListN.{length, take, drop, length-append}
 use lib.Seq.{take-append-seam, drop-append-seam, take-append-add, drop-drop}
-use Rattle.tokens.specs.declared.kind.Kind.{Kind}
-use Rattle.tokens.specs.declared.kind.Kind.the-variants.{Stray}
-use Rattle.tokens.specs.Run.{isBlank}
+use Rattle.lexis.specs.declared.kind.Kind.{Kind}
+use Rattle.lexis.specs.declared.kind.Kind.the-variants.{Stray}
+use Rattle.lexis.specs.Run.{isBlank}
 use Rattle.tokens.specs.Gap.{gap}
-use Rattle.tokens.specs.Kind.{isEnd, isStray}
-use Rattle.tokens.specs.Spelling.{kindOf}
+use Rattle.lexis.specs.Kind.{isEnd, isStray}
+use Rattle.lexis.specs.Spelling.{kindOf}
 use Rattle.tokens.specs.Spells.{Spells}
 use Rattle.tokens.specs.Longest.{Longest}
 use Rattle.tokens.specs.Token.{placed, tokenAt, nextToken}
 use Rattle.tokens.specs.Tokens.{tokensFrom}
-use Rattle.tokens.proofs.KindNumber.{is-end, is-stray}
+use Rattle.lexis.proofs.KindNumber.{is-end, is-stray}
 use Rattle.tokens.proofs.Spelled.{kind-of-spelled}
 use Rattle.tokens.proofs.LongestMatch.{longest-by-next}
 use Rattle.tokens.proofs.Gaps.{gap-blank}

@@ -8,17 +8,17 @@ use native.Mathlib.Omega.{arith}
 use lib.Dec.{ltb, leb, eqb}
 use lib.ListN.{length, getD, length-append, List·getD-append}
 use borrow.Author.Tests.{ltb-true, ltb-false, lt-ltb, le-ltb, leb-true, eqb-true, eqb-false}
-use Rattle.tokens.specs.declared.class.Class.{Class}
-use Rattle.tokens.specs.declared.class.Class.the-variants.{Lower, Upper, Digit, Underscore, Other}
-use Rattle.tokens.specs.declared.kind.Kind.the-variants.{Number}
-use Rattle.tokens.specs.declared.run.Run.the-variants.{Digits}
-use Rattle.tokens.specs.Class.{classOf, isDigit}
-use Rattle.tokens.specs.Run.{goesOn}
-use Rattle.tokens.specs.Number.{decimalAfter, decimal}
-use Rattle.tokens.specs.Spelling.{every}
+use Rattle.meaning.proofs.Booleans.{both}
+use Rattle.lexis.specs.declared.class.Class.{Class}
+use Rattle.lexis.specs.declared.class.Class.the-variants.{Lower, Upper, Digit, Underscore, Other}
+use Rattle.lexis.specs.declared.kind.Kind.the-variants.{Number}
+use Rattle.lexis.specs.declared.run.Run.the-variants.{Digits}
+use Rattle.lexis.specs.Class.{classOf, isDigit}
+use Rattle.lexis.specs.Run.{goesOn}
+use Rattle.lexis.specs.Number.{decimalAfter, decimal}
+use Rattle.texts.specs.Prefix.{every}
 use Rattle.tokens.specs.Spells.{Starts, Spells}
-use Rattle.tokens.proofs.Classes.{class-digit}
-use Rattle.tokens.proofs.Conjunction.{both}
+use Rattle.lexis.proofs.Classes.{class-digit}
 use Rattle.meaning.specs.Rules.{Bytes}
 use Rattle.grammar.specs.Writing.{digits}
 

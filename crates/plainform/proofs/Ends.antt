@@ -8,17 +8,18 @@ use native.Mathlib.Omega.{arith}
 use lib.Dec.{eqb}
 use lib.ListN.{length, length-append}
 use borrow.Author.Tests.{eqb-true, ne-eqb}
-use Rattle.tokens.specs.declared.class.Class.{Class}
-use Rattle.tokens.specs.declared.class.Class.the-variants.{Lower, Upper, Digit, Other}
-use Rattle.tokens.specs.declared.run.Run.{Run}
-use Rattle.tokens.specs.declared.run.Run.the-variants.{Word, Digits}
-use Rattle.tokens.specs.declared.kind.Kind.the-variants.{Stray}
-use Rattle.tokens.specs.Class.{classOf, isWord}
-use Rattle.tokens.specs.Run.{goesOn}
-use Rattle.tokens.specs.Spelling.{singleKind, pairKind, nameKind, every, numberKind, kindFrom, kindOf}
+use Rattle.lexis.specs.declared.class.Class.{Class}
+use Rattle.lexis.specs.declared.class.Class.the-variants.{Lower, Upper, Digit, Other}
+use Rattle.lexis.specs.declared.run.Run.{Run}
+use Rattle.lexis.specs.declared.run.Run.the-variants.{Word, Digits}
+use Rattle.lexis.specs.declared.kind.Kind.the-variants.{Stray}
+use Rattle.lexis.specs.Class.{classOf, isWord}
+use Rattle.lexis.specs.Run.{goesOn}
+use Rattle.lexis.specs.Spelling.{singleKind, pairKind, nameKind, numberKind, kindFrom, kindOf}
+use Rattle.texts.specs.Prefix.{every}
 use Rattle.tokens.specs.Spells.{Starts}
-use Rattle.tokens.specs.Strings.{quote, Quotable, quoted}
-use Rattle.tokens.proofs.Strings.{string-kind, quotable-closing, between-quoted, string-quotable}
+use Rattle.lexis.specs.Strings.{quote, Quotable, quoted}
+use Rattle.lexis.proofs.Strings.{string-kind, quotable-closing, between-quoted, string-quotable}
 use Rattle.meaning.specs.Domain.{equal, unequal, less, at-most, greater, at-least}
 use Rattle.meaning.specs.Rules.{Bytes}
 use Rattle.grammar.specs.Tokens.{sign, <>, underscore, not, minus, opening, closing, comma, dot, :-, plus, times, bar, Token, name, variable, string, number, comparison, symbol, stray}

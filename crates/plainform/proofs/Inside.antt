@@ -10,20 +10,22 @@ use lib.Dec.{eqb}
 use lib.ListN.{length, getD, take, drop, length-append, length-take, take-append-drop}
 use lib.Seq.{length-take-le, drop-drop}
 use borrow.Author.Tests.{eqb-true, eqb-false}
-use Rattle.tokens.specs.declared.kind.Kind.{Kind}
-use Rattle.tokens.specs.declared.kind.Kind.the-variants.{Not, Name, Stray}
-use Rattle.tokens.specs.declared.place.Place.{Place}
+use Rattle.lexis.specs.declared.kind.Kind.{Kind}
+use Rattle.lexis.specs.declared.kind.Kind.the-variants.{Not, Name, Stray}
+use Rattle.texts.specs.declared.place.Place.{Place}
 use Rattle.tokens.specs.declared.Token.{Token as TextToken}
-use Rattle.tokens.specs.declared.class.Class.the-variants.{Lower}
-use Rattle.tokens.specs.declared.run.Run.the-variants.{Word}
-use Rattle.tokens.specs.Class.{classOf}
-use Rattle.tokens.specs.Kind.{isEnd, isStray}
-use Rattle.tokens.specs.Spelling.{nameKind, every, kindOf}
+use Rattle.lexis.specs.declared.class.Class.the-variants.{Lower}
+use Rattle.lexis.specs.declared.run.Run.the-variants.{Word}
+use Rattle.lexis.specs.Class.{classOf}
+use Rattle.lexis.specs.Kind.{isEnd, isStray}
+use Rattle.lexis.specs.Spelling.{nameKind, kindOf}
+use Rattle.texts.specs.Prefix.{every}
 use Rattle.tokens.specs.Spells.{spelling, Starts, Spells}
 use Rattle.tokens.specs.Longest.{Longest}
 use Rattle.tokens.specs.Token.{nextToken}
-use Rattle.tokens.specs.Tokens.{part, after, tokensFrom}
-use Rattle.tokens.proofs.KindNumber.{is-stray}
+use Rattle.texts.specs.Parts.{part}
+use Rattle.tokens.specs.Tokens.{after, tokensFrom}
+use Rattle.lexis.proofs.KindNumber.{is-stray}
 use Rattle.tokens.proofs.Next.{inside, next-found, next-spells, forward}
 use Rattle.tokens.proofs.TokenList.{tokens-end, tokens-more}
 use Rattle.reading.specs.Reading.{tokens, unplaced}

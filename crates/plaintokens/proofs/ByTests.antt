@@ -4,7 +4,7 @@ use mathlib.Core.Bool.{Bool, true, false, cond}
 use mathlib.Core.List.{[], _∷_}
 use Prim.Native.Nat.{ℕ}
 use borrow.Author.Tests.{eq-eqb, ne-eqb}
-use Rattle.tokens.specs.Tokens.{part}
+use Rattle.texts.specs.Parts.{part}
 use Rattle.meaning.specs.Rules.{Bytes}
 use Rattle.syntax.specs.declared.token.TokenRead.{TokenRead}
 use Rattle.plaintokens.specs.Neighbours.{runs-together, blank-between}

@@ -8,7 +8,7 @@ use native.Mathlib.Omega.{arith}
 use lib.Dec.{eqb}
 use lib.ListN.{length, getD}
 use borrow.Author.Tests.{ne-eqb}
-use Rattle.tokens.specs.Number.{decimalAfter, decimal}
+use Rattle.lexis.specs.Number.{decimalAfter, decimal}
 use Rattle.reading.specs.Reading.{Marked, _at_, tokens}
 use Rattle.reading.proofs.Lists.{tokens-append}
 use Rattle.meaning.specs.Domain.{Operation, equal, unequal, less, at-most, greater, at-least}

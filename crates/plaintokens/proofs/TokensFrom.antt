@@ -9,11 +9,11 @@ use lib.Dec.{eqb}
 use lib.ListN.{length, getD, take, drop, List·getD-eq-default}
 use lib.Seq.{getD-take, getD-drop}
 use borrow.Author.Tests.{ne-eqb, eqb-true, eqb-false}
-use Rattle.tokens.specs.declared.kind.Kind.the-variants.{Stray}
-use Rattle.tokens.specs.Kind.{kindNumber, isEnd, isStray}
+use Rattle.lexis.specs.declared.kind.Kind.the-variants.{Stray}
+use Rattle.lexis.specs.Kind.{kindNumber, isEnd, isStray}
 use Rattle.tokens.specs.Token.{nextToken}
-use Rattle.tokens.specs.Tokens.{part}
-use Rattle.tokens.proofs.KindNumber.{kindAt, kind-at-number, is-stray}
+use Rattle.texts.specs.Parts.{part}
+use Rattle.lexis.proofs.KindNumber.{kindAt, kind-at-number, is-stray}
 use Rattle.tokens.proofs.Spelled.{spells}
 use Rattle.tokens.proofs.Next.{next-found, not-empty}
 use Rattle.reading.specs.Reading.{unplaced}

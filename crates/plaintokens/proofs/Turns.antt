@@ -5,7 +5,7 @@ use mathlib.Core.List.{List, [], _∷_, _++_, append-assoc, append-nil}
 use Prim.Native.Nat.{ℕ, _+_, _-_, _≤_, _<_}
 use native.Mathlib.Omega.{arith}
 use lib.ListN.{length, getD, length-append}
-use Rattle.tokens.specs.Tokens.{part}
+use Rattle.texts.specs.Parts.{part}
 use Rattle.tokens.proofs.Next.{forward}
 use Rattle.meaning.specs.Rules.{Bytes}
 use Rattle.grammar.specs.Tokens.{sign, <>, Token, name, variable, string, number, comparison, symbol, stray}

@@ -4,8 +4,8 @@ use mathlib.Core.Bool.{Bool, false, not, _&&_, _||_, cond}
 use mathlib.Core.List.{[], _∷_}
 use Prim.Native.Nat.{ℕ}
 use lib.Dec.{leb, eqb}
-use Rattle.tokens.specs.declared.kind.Kind.the-variants.{Number, Open, Close, Minus, Equal, AtLeast, String}
-use Rattle.tokens.specs.Kind.{kindNumber}
+use Rattle.lexis.specs.declared.kind.Kind.the-variants.{Number, Open, Close, Minus, Equal, AtLeast, String}
+use Rattle.lexis.specs.Kind.{kindNumber}
 use Rattle.meaning.specs.Rules.{Bytes}
 
 -- made of letters, digits and `_`

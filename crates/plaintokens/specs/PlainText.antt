@@ -3,9 +3,9 @@ use mathlib.Core.Bool.{Bool, false, cond}
 use mathlib.Core.List.{List, [], _∷_}
 use Prim.Native.Nat.{ℕ}
 use lib.Dec.{eqb}
-use Rattle.tokens.specs.declared.kind.Kind.the-variants.{Dot, AlsoUnequal}
-use Rattle.tokens.specs.Kind.{kindNumber}
-use Rattle.tokens.specs.Tokens.{part}
+use Rattle.lexis.specs.declared.kind.Kind.the-variants.{Dot, AlsoUnequal}
+use Rattle.lexis.specs.Kind.{kindNumber}
+use Rattle.texts.specs.Parts.{part}
 use Rattle.reading.specs.Reading.{unplaced}
 use Rattle.meaning.specs.Rules.{Bytes}
 use Rattle.grammar.specs.Tokens.{Token}

@@ -4,8 +4,8 @@ use mathlib.Core.Bool.{Bool, true, false}
 use mathlib.Core.List.{List, [], _∷_, _++_}
 use Prim.Native.Nat.{ℕ}
 use lib.ListN.{getD}
-use Rattle.tokens.specs.declared.kind.Kind.the-variants.{Dot, End}
-use Rattle.tokens.specs.Kind.{kindNumber}
+use Rattle.lexis.specs.declared.kind.Kind.the-variants.{Dot, End}
+use Rattle.lexis.specs.Kind.{kindNumber}
 use Rattle.meaning.specs.Rules.{Bytes}
 use Rattle.grammar.specs.Tokens.{Token, name, variable, string, number, comparison, symbol, stray}
 use Rattle.grammar.specs.PlainForm.{plain-sign}

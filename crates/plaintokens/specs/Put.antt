@@ -3,7 +3,7 @@ use mathlib.Core.Path.{_≡_}
 use Prim.Native.Nat.{ℕ, _+_, _≤_}
 use lib.ListN.{length}
 use lib.Seq.{sets}
-use Rattle.tokens.specs.Sizes.{most-text}
+use Rattle.texts.specs.Sizes.{most-text}
 use Rattle.meaning.specs.Rules.{Bytes}
 
 -- bytes from a place on end within a program's size; its plain form has no more

@@ -1,13 +1,13 @@
 // What a token's neighbours decide, by their kinds: whether the plain form leaves the token out, and whether a blank stands before it.
 ghost use mathlib.Core.Path.{_≡_};
 ghost use Rattle.plaintokens.specs.Neighbours.{ends-term, left-out, runs-together};
-use tokens::kind::AT_LEAST;
-use tokens::kind::CLOSE;
-use tokens::kind::EQUAL;
-use tokens::kind::MINUS;
-use tokens::kind::NUMBER;
-use tokens::kind::OPEN;
-use tokens::kind::STRING;
+use lexis::kind::AT_LEAST;
+use lexis::kind::CLOSE;
+use lexis::kind::EQUAL;
+use lexis::kind::MINUS;
+use lexis::kind::NUMBER;
+use lexis::kind::OPEN;
+use lexis::kind::STRING;
 
 // May a term end with a token of the kind? It is a word, `)` or a string, and a minus behind it is an operation.
 fn ends_term(kind: u8) -> bool

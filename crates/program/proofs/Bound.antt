@@ -9,8 +9,8 @@ use native.Mathlib.Numerals.{add-one}
 use lib.ListN.{length, length-append}
 use Rattle.reading.specs.Reading.{tokens, unplaced, tree, Reading}
 use Rattle.reading.proofs.Lists.{tokens-append, unplaced-append}
-use Rattle.tokens.specs.Place.{text-start}
-use Rattle.tokens.specs.Sizes.{most-text}
+use Rattle.texts.specs.Place.{text-start}
+use Rattle.texts.specs.Sizes.{most-text}
 use Rattle.meaning.specs.Values.{Value}
 use Rattle.meaning.specs.Rules.{Bytes, Rule as MeantRule}
 use Rattle.grammar.specs.Tokens.{dot, Token, symbol}

@@ -8,12 +8,12 @@ use lib.Dec.{leb, ltb}
 use lib.ListN.{length}
 use lib.Seq.{take-length}
 use Rattle.terms.specs.Cursors.{variables-size}
-use Rattle.tokens.specs.declared.place.Place.{Place}
-use Rattle.tokens.specs.Sizes.{most-text}
+use Rattle.texts.specs.declared.place.Place.{Place}
+use Rattle.texts.specs.Sizes.{most-text}
 use borrow.Author.Tests.{leb-false, ltb-true, ltb-false, lt-ltb}
 use Rattle.reading.specs.Reading.{_▹_}
-use Rattle.tokens.specs.Place.{text-start, Stands as PlaceStands}
-use Rattle.tokens.proofs.Counting.{start-stands}
+use Rattle.texts.specs.Place.{text-start, Stands as PlaceStands}
+use Rattle.texts.proofs.Counting.{start-stands}
 use Rattle.meaning.specs.Sets.{every}
 use Rattle.meaning.specs.Rules.{Bytes}
 use Rattle.meaning.specs.Safety.{safe}

@@ -11,7 +11,7 @@ use lib.Dec.{leb, ltb}
 use lib.ListN.{length, length-append}
 use Rattle.terms.specs.Cursors.{variables-size}
 use borrow.Author.Tests.{leb-false, ltb-true, ltb-false}
-use Rattle.tokens.specs.declared.place.Place.{Place}
+use Rattle.texts.specs.declared.place.Place.{Place}
 use Rattle.reading.specs.Reading.{unplaced, seen, tree, refused}
 use Rattle.reading.proofs.Lists.{unplaced-append, seen-append}
 use Rattle.meaning.specs.Sets.{every}
@@ -21,8 +21,8 @@ use Rattle.meaning.specs.Safety.{bound, safe}
 use Rattle.grammar.specs.Trees.{empty, _then_, count, Rule as Tree, Program}
 use Rattle.grammar.specs.Sizes.{too-many, programs}
 use Rattle.grammar.specs.Abstraction.{rule-for, rules-for}
-use Rattle.tokens.specs.Place.{text-start}
-use Rattle.tokens.specs.Sizes.{most-text}
+use Rattle.texts.specs.Place.{text-start}
+use Rattle.texts.specs.Sizes.{most-text}
 use Rattle.syntax.specs.Text.{placed-from, end-of}
 use Rattle.syntax.specs.Ahead.{firsts}
 use Rattle.syntax.specs.Rules.{behind-rules, RulePlace}

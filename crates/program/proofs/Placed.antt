@@ -2,8 +2,8 @@
 use mathlib.Core.Path.{_≡_, refl, sym as inv}
 use mathlib.Core.Bool.{false}
 use Prim.Native.Nat.{ℕ}
-use Rattle.tokens.specs.Place.{Stands}
-use Rattle.tokens.proofs.Counting.{start-stands}
+use Rattle.texts.specs.Place.{Stands}
+use Rattle.texts.proofs.Counting.{start-stands}
 use Rattle.meaning.specs.Rules.{Bytes}
 use Rattle.stages.specs.Parts.{program, Part, in-text}
 use Rattle.stages.specs.Stage.{stop, stops, goes, given, first, fault}

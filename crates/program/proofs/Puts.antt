@@ -5,8 +5,8 @@ use mathlib.Core.List.{List}
 use Prim.Native.Nat.{ℕ, _≤_}
 use native.Mathlib.Omega.{arith}
 use lib.ListN.{length}
-use Rattle.tokens.specs.Places.{places-in}
-use Rattle.tokens.proofs.PlaceTables.{places-length}
+use Rattle.texts.specs.Places.{places-in}
+use Rattle.texts.proofs.PlaceTables.{places-length}
 use Rattle.meaning.specs.Rules.{Bytes}
 use Rattle.grammar.specs.Trees.{Rule as Tree}
 use Rattle.grammar.specs.Abstraction.{rule-for}

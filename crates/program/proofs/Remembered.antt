@@ -10,7 +10,7 @@ use native.Mathlib.Nat.{add-zero}
 use lib.Dec.{ltb}
 use lib.ListN.{length, length-append, getD, getElem?}
 use borrow.Author.Tests.{ltb-true, ltb-false}
-use Rattle.tokens.specs.declared.place.Place.{Place}
+use Rattle.texts.specs.declared.place.Place.{Place}
 use Rattle.reading.specs.Reading.{unplaced, seen}
 use Rattle.reading.specs.Faults.{place-at}
 use Rattle.reading.proofs.Lists.{none-some, some-inj, unplaced-append, seen-append}
@@ -20,7 +20,7 @@ use Rattle.meaning.specs.Rules.{Rule}
 use Rattle.meaning.specs.Safety.{bound}
 use Rattle.meaning.proofs.Safety.{scan-exact}
 use Rattle.grammar.specs.Sizes.{programs}
-use Rattle.tokens.specs.Place.{text-start}
+use Rattle.texts.specs.Place.{text-start}
 use Rattle.syntax.specs.Ahead.{ends-rule, firsts}
 use Rattle.rulesafety.specs.declared.unbound.Unbound.{Unbound as Found}
 use Rattle.rulesafety.specs.Unbound.{no-unbound, FirstUnbound, found, all-bound}

@@ -8,7 +8,7 @@ use native.Mathlib.Nat.{add-zero}
 use lib.ListN.{length, length-append}
 use Rattle.reading.specs.Reading.{tokens, unplaced, seen, tree, Answer, refused, Reading}
 use Rattle.reading.proofs.Lists.{tokens-append, seen-append}
-use Rattle.tokens.specs.declared.place.Place.{Place}
+use Rattle.texts.specs.declared.place.Place.{Place}
 use Rattle.meaning.specs.Sets.{every}
 use Rattle.meaning.specs.Values.{Value}
 use Rattle.meaning.specs.Rules.{Bytes, Rule as MeantRule}
@@ -21,7 +21,7 @@ use Rattle.grammar.specs.Sizes.{programs}
 use Rattle.grammar.specs.Moves.{symbol-number, token-number}
 use Rattle.grammar.specs.Abstraction.{rule-for, rules-for}
 use Rattle.grammar.proofs.Variables.{met-seen}
-use Rattle.tokens.specs.Place.{text-start}
+use Rattle.texts.specs.Place.{text-start}
 use Rattle.syntax.specs.Ahead.{firsts}
 use Rattle.syntax.specs.Text.{end-of}
 use Rattle.rulesafety.proofs.Safe.{safe-of-bound}

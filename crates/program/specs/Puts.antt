@@ -6,7 +6,7 @@ use mathlib.Core.List.{List, []}
 use Prim.Native.Nat.{ℕ, _+_, _-_, _*_, _≤_, _<_}
 use lib.ListN.{length}
 use Rattle.reading.specs.Reading.{tree, refused}
-use Rattle.tokens.specs.Place.{Stands as PlaceStands}
+use Rattle.texts.specs.Place.{Stands as PlaceStands}
 use Rattle.meaning.specs.Sets.{In}
 use Rattle.meaning.specs.Rules.{Bytes}
 use Rattle.meaning.specs.Safety.{bound, safe}

@@ -8,7 +8,7 @@ use rulesafety::unbound::Unbound;
 use rulesafety::unbound::first_unbound;
 use syntax::token::Progress;
 use terms::cursor::Cursor;
-use tokens::place::Place;
+use texts::place::Place;
 
 // Where a rule starts in the program, its number, and whether it is one too many.
 pub struct RuleStart {

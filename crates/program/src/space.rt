@@ -5,7 +5,7 @@ ghost use Rattle.program.specs.Rules.{rules-size, literals-size};
 use tables::LITERAL;
 use tables::ROWS;
 use tables::RULE;
-use tokens::sizes::MOST_RULES;
+use texts::sizes::MOST_RULES;
 
 pub const RULES: usize = MOST_RULES * RULE;
 

@@ -8,7 +8,7 @@ use mathlib.Core.List.{List, _++_, map}
 use Prim.Native.Nat.{ℕ}
 use native.Mathlib.Omega.{arith}
 use lib.ListN.{length, drop}
-use Rattle.tokens.specs.declared.place.Place.{Place}
+use Rattle.texts.specs.declared.place.Place.{Place}
 use Rattle.meaning.specs.Rules.{Bytes, Fact, Rule, disjunctive}
 use Rattle.meaning.specs.Values.{Value, values}
 use Rattle.meaning.specs.Instances.{Set}

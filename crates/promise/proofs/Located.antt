@@ -5,9 +5,9 @@ use mathlib.Core.List.{List}
 use Prim.Native.Nat.{ℕ, _+_, _≤_}
 use native.Mathlib.Omega.{arith}
 use lib.ListN.{length, length-take, length-drop}
-use Rattle.tokens.specs.Place.{Stands}
-use Rattle.tokens.specs.Tokens.{part}
-use Rattle.tokens.proofs.Counting.{start-stands, from-stands}
+use Rattle.texts.specs.Place.{Stands}
+use Rattle.texts.specs.Parts.{part}
+use Rattle.texts.proofs.Counting.{start-stands, from-stands}
 use Rattle.meaning.specs.Rules.{Bytes, Fact, Rule}
 use Rattle.meaning.specs.Values.{Value}
 use Rattle.meaning.specs.Verdicts.{Verdict}

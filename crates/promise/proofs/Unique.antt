@@ -3,7 +3,7 @@ use mathlib.Core.Path.{_≡_, sym as inv, ap, _∙_}
 use mathlib.Core.Bool.{true, false}
 use mathlib.Core.List.{List}
 use Prim.Native.Nat.{ℕ}
-use Rattle.tokens.specs.declared.place.Place.{Place}
+use Rattle.texts.specs.declared.place.Place.{Place}
 use Rattle.meaning.specs.Rules.{Bytes}
 use Rattle.grammar.specs.Trees.{Program}
 use Rattle.stages.proofs.Unique.{One, then-one, is-one, refuse-one, first-one}

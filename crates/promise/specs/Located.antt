@@ -1,5 +1,5 @@
 -- Where the part of an answer stands: in the text that it names, with the line and the column of its start there.
-use Rattle.tokens.specs.Place.{Stands}
+use Rattle.texts.specs.Place.{Stands}
 use Rattle.meaning.specs.Rules.{Bytes}
 use Rattle.stages.specs.Parts.{of-text, Part}
 

@@ -5,7 +5,7 @@ use mathlib.Core.Bool.{Bool, true, false}
 use mathlib.Core.List.{List, [], _∷_, nil≢cons}
 use denote.Ref.{RefT, now}
 use borrow.Author.Tests.{ltb-true, ltb-false, lt-ltb}
-use Rattle.tokens.specs.declared.place.Span.{Span}
+use Rattle.texts.specs.declared.place.Span.{Span}
 use Rattle.report.specs.declared.reader.Lines.{Lines}
 use Rattle.report.specs.Lines.{hasLine, behindLine, linesFrom, lines, AreLines}
 use Rattle.report.specs.Reader.{readerAt, next, behind, HandsOut, ends, goes-on}

@@ -7,11 +7,11 @@ use mathlib.Core.Bool.{Bool, true, false}
 use mathlib.Core.List.{List, [], _∷_}
 use lib.Dec.{ltb}
 use lib.ListN.{length, drop}
-use Rattle.tokens.specs.declared.place.Place.{Place}
-use Rattle.tokens.specs.declared.place.Span.{Span}
-use Rattle.tokens.specs.Run.{inLine, prefixLen}
-use Rattle.tokens.specs.Place.{place-from, text-start, Stands}
-use Rattle.tokens.proofs.Counting.{start-stands, from-stands}
+use Rattle.texts.specs.declared.place.Place.{Place}
+use Rattle.texts.specs.declared.place.Span.{Span}
+use Rattle.texts.specs.Prefix.{inLine, prefixLen}
+use Rattle.texts.specs.Place.{place-from, text-start, Stands}
+use Rattle.texts.proofs.Counting.{start-stands, from-stands}
 use Rattle.report.specs.declared.word.Word.{Word}
 use Rattle.report.specs.declared.word.Word.the-variants.{Answer, Inconsistent, Unknown}
 use Rattle.report.specs.declared.Report.{Report}

@@ -9,12 +9,12 @@ use lib.Dec.{eqb, ltb}
 use lib.ListN.{length, take, drop, length-take, length-drop, drop-of-length-le}
 use lib.Seq.{drop-drop}
 use borrow.Author.Tests.{ltb-true, ltb-false}
-use Rattle.tokens.specs.declared.place.Span.{Span}
-use Rattle.tokens.specs.Run.{inLine, prefixLen}
-use Rattle.tokens.proofs.Prefix.{prefix-nil, prefix-more, prefix-none}
-use Rattle.tokens.proofs.Every.{prefix-inside}
-use Rattle.tokens.specs.Tokens.{bytes-in}
-use Rattle.tokens.specs.Places.{span-from}
+use Rattle.texts.specs.declared.place.Span.{Span}
+use Rattle.texts.specs.Prefix.{inLine, prefixLen}
+use Rattle.texts.proofs.Prefix.{prefix-nil, prefix-more, prefix-none}
+use Rattle.texts.proofs.Every.{prefix-inside}
+use Rattle.texts.specs.Parts.{bytes-in}
+use Rattle.texts.specs.Places.{span-from}
 use Rattle.report.specs.Lines.{longer, linesAt, linesFrom, lineEnd, nextLine, lineAt}
 
 pub lines-nil : (at : ℕ) → linesAt at [] ≡ []

@@ -7,12 +7,12 @@ use mathlib.Core.List.{List}
 use lib.Dec.{eqb}
 use lib.ListN.{length, getD, drop, length-drop}
 use borrow.Author.Tests.{lt-ltb, le-ltb}
-use Rattle.tokens.specs.declared.place.Place.{Place}
-use Rattle.tokens.specs.Run.{inLine}
-use Rattle.tokens.specs.Place.{place-from, Stands, with-len, along, past, behind, Countable}
-use Rattle.tokens.specs.Tokens.{bytes-in}
-use Rattle.tokens.proofs.Every.{prefix-inside}
-use Rattle.tokens.proofs.Counting.{from-stands, as-from, countable, along-stands, past-countable, behind-stands, behind-start}
+use Rattle.texts.specs.declared.place.Place.{Place}
+use Rattle.texts.specs.Prefix.{inLine}
+use Rattle.texts.specs.Place.{place-from, Stands, with-len, along, past, behind, Countable}
+use Rattle.texts.specs.Parts.{bytes-in}
+use Rattle.texts.proofs.Every.{prefix-inside}
+use Rattle.texts.proofs.Counting.{from-stands, as-from, countable, along-stands, past-countable, behind-stands, behind-start}
 use Rattle.report.specs.Lines.{nextLine, lineAt, endOf, WholeLine}
 use Rattle.report.proofs.LineList.{its-end}
 

@@ -6,12 +6,12 @@ use mathlib.Core.Bool.{true, false}
 use mathlib.Core.List.{List, [], _∷_}
 use lib.Dec.{eqb}
 use lib.ListN.{length, getD}
-use Rattle.tokens.specs.declared.place.Place.{Place}
-use Rattle.tokens.specs.declared.place.Span.{Span}
-use Rattle.tokens.specs.Tokens.{bytes-in}
-use Rattle.tokens.specs.Place.{Stands, with-len}
-use Rattle.tokens.specs.Places.{span-from}
-use Rattle.tokens.proofs.Counting.{as-from}
+use Rattle.texts.specs.declared.place.Place.{Place}
+use Rattle.texts.specs.declared.place.Span.{Span}
+use Rattle.texts.specs.Parts.{bytes-in}
+use Rattle.texts.specs.Place.{Stands, with-len}
+use Rattle.texts.specs.Places.{span-from}
+use Rattle.texts.proofs.Counting.{as-from}
 use Rattle.report.specs.declared.around.Found.{Found}
 use Rattle.report.specs.declared.around.Found.the-variants.{End, Line}
 use Rattle.report.specs.Lines.{linesFrom, nextLine, lineAt}

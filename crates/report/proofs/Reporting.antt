@@ -7,12 +7,12 @@ use lib.Dec.{ltb}
 use lib.ListN.{length}
 use borrow.Author.Tests.{ltb-true, ltb-false}
 use native.Mathlib.Omega.{arith}
-use Rattle.tokens.specs.declared.place.Place.{Place}
-use Rattle.tokens.specs.declared.place.Span.{Span}
-use Rattle.tokens.specs.Tokens.{bytes-in, part}
-use Rattle.tokens.specs.Place.{place-from, text-start, Stands, with-len}
-use Rattle.tokens.specs.Places.{span-from}
-use Rattle.tokens.proofs.Counting.{from-stands, as-from}
+use Rattle.texts.specs.declared.place.Place.{Place}
+use Rattle.texts.specs.declared.place.Span.{Span}
+use Rattle.texts.specs.Parts.{bytes-in, part}
+use Rattle.texts.specs.Place.{place-from, text-start, Stands, with-len}
+use Rattle.texts.specs.Places.{span-from}
+use Rattle.texts.proofs.Counting.{from-stands, as-from}
 use Rattle.report.specs.declared.word.Word.{Word}
 use Rattle.report.specs.declared.word.Word.the-variants.{Answer, Inconsistent, Unknown}
 use Rattle.report.specs.declared.Report.{Report}

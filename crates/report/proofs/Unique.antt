@@ -6,9 +6,9 @@ use mathlib.Core.List.{List, [], _∷_, _++_}
 use lib.Dec.{eqb}
 use lib.ListN.{getD}
 use borrow.Author.Tests.{eqb-true}
-use Rattle.tokens.specs.declared.place.Span.{Span}
-use Rattle.tokens.specs.Tokens.{bytes-in}
-use Rattle.tokens.proofs.Conjunction.{both}
+use Rattle.meaning.proofs.Booleans.{both}
+use Rattle.texts.specs.declared.place.Span.{Span}
+use Rattle.texts.specs.Parts.{bytes-in}
 use Rattle.report.specs.declared.word.Word.{Word}
 use Rattle.report.specs.declared.word.Word.the-variants.{Answer, Inconsistent, Unknown}
 use Rattle.report.specs.declared.around.Found.{Found}

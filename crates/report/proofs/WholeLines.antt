@@ -9,14 +9,13 @@ use mathlib.Core.List.{List, [], _∷_, _++_, nil≢cons, tail-eq-of-cons-eq}
 use lib.Dec.{eqb}
 use lib.ListN.{length, take, drop, length-drop}
 use lib.Seq.{drop-drop}
-use Rattle.tokens.specs.declared.place.Span.{Span}
-use Rattle.tokens.specs.Run.{inLine}
-use Rattle.tokens.specs.Spelling.{every}
-use Rattle.tokens.specs.Tokens.{bytes-in}
+use Rattle.meaning.proofs.Booleans.{both}
+use Rattle.texts.specs.declared.place.Span.{Span}
+use Rattle.texts.specs.Prefix.{inLine, every}
+use Rattle.texts.specs.Parts.{bytes-in}
 use borrow.Author.Tests.{eqb-true, eq-eqb, not-true}
-use Rattle.tokens.proofs.Conjunction.{both}
-use Rattle.tokens.proofs.Every.{every-nil}
-use Rattle.tokens.specs.Places.{span-from}
+use Rattle.texts.proofs.Every.{every-nil}
+use Rattle.texts.specs.Places.{span-from}
 use Rattle.report.specs.Lines.{longer, linesAt, lines, InOrder, joined, ended, AreLines}
 use Rattle.report.proofs.LineList.{lines-nil, lines-newline, lines-longer, others-in}
 

@@ -4,8 +4,8 @@ use mathlib.Core.Path.{_≡_}
 use mathlib.Core.Bool.{Bool, true, false}
 use mathlib.Core.List.{List, [], _∷_, _++_}
 use lib.Dec.{eqb}
-use Rattle.tokens.specs.declared.place.Span.{Span}
-use Rattle.tokens.specs.Tokens.{bytes-in}
+use Rattle.texts.specs.declared.place.Span.{Span}
+use Rattle.texts.specs.Parts.{bytes-in}
 use Rattle.report.specs.declared.around.Found.{Found}
 use Rattle.report.specs.declared.around.Found.the-variants.{End, Line}
 use Rattle.report.specs.Lines.{linesFrom, located, endOf}

@@ -5,13 +5,12 @@ use mathlib.Core.Bool.{Bool, true, cond}
 use mathlib.Core.List.{List, [], _∷_, _++_}
 use lib.Dec.{eqb, ltb}
 use lib.ListN.{length, drop}
-use Rattle.tokens.specs.declared.place.Place.{Place}
-use Rattle.tokens.specs.declared.place.Span.{Span}
-use Rattle.tokens.specs.Run.{inLine, prefixLen}
-use Rattle.tokens.specs.Spelling.{every}
-use Rattle.tokens.specs.Tokens.{bytes-in}
-use Rattle.tokens.specs.Place.{place-from, Stands}
-use Rattle.tokens.specs.Places.{span-from}
+use Rattle.texts.specs.declared.place.Place.{Place}
+use Rattle.texts.specs.declared.place.Span.{Span}
+use Rattle.texts.specs.Prefix.{inLine, prefixLen, every}
+use Rattle.texts.specs.Parts.{bytes-in}
+use Rattle.texts.specs.Place.{place-from, Stands}
+use Rattle.texts.specs.Places.{span-from}
 
 -- a byte before lines belongs to the first of them, or is one of its own
 abbrev pub longer : ℕ → List Span → List Span

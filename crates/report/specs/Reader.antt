@@ -4,7 +4,7 @@ use mathlib.Core.Path.{_≡_}
 use mathlib.Core.Bool.{Bool, true, false}
 use mathlib.Core.List.{List, [], _∷_}
 use denote.Ref.{RefT, now}
-use Rattle.tokens.specs.declared.place.Span.{Span}
+use Rattle.texts.specs.declared.place.Span.{Span}
 use Rattle.report.specs.declared.reader.Lines.{Lines}
 use Rattle.report.specs.Lines.{hasLine, lineAt, behindLine}
 

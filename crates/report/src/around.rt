@@ -1,12 +1,12 @@
 // What may stand around the report: lines that are empty or start with `%`.
 ghost use mathlib.Core.Path.{_≡_};
-ghost use Rattle.tokens.specs.Place.{Stands};
+ghost use Rattle.texts.specs.Place.{Stands};
 ghost use Rattle.report.specs.Around.{isIdle, OutOfPlace};
 use crate::line::has_line;
 use crate::line::line_behind;
 use crate::reader::line_from;
-use tokens::place::Place;
-use tokens::place::with_len;
+use texts::place::Place;
+use texts::place::with_len;
 
 // A line; or none, and the text's end.
 pub enum Found {

@@ -1,6 +1,6 @@
 // The solver's output by its lines: what may stand around the report, the report, the line of the facts, and the solver's code.
 ghost use mathlib.Core.Path.{_≡_};
-ghost use Rattle.tokens.specs.Place.{Stands};
+ghost use Rattle.texts.specs.Place.{Stands};
 ghost use Rattle.report.specs.Lines.{linesFrom};
 ghost use Rattle.report.specs.Around.{OutOfPlace};
 ghost use Rattle.report.specs.Report.{refused, found, reported, Reported};
@@ -9,10 +9,10 @@ use around::out_of_place;
 use line::has_line;
 use line::line_behind;
 use reader::line_from;
-use tokens::parts::part;
-use tokens::place::Place;
-use tokens::place::TEXT_START;
-use tokens::place::with_len;
+use texts::parts::part;
+use texts::place::Place;
+use texts::place::TEXT_START;
+use texts::place::with_len;
 use word::Word;
 use word::starts_with;
 

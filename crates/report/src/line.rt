@@ -1,14 +1,14 @@
 // Lines of a text: whether one stands at a place, where it ends, its bytes, and where the next one begins.
 ghost use mathlib.Core.Path.{_≡_};
 ghost use Prim.Native.Nat.{_+_};
-ghost use Rattle.tokens.specs.Place.{place-from};
-ghost use Rattle.tokens.specs.Tokens.{bytes-in};
+ghost use Rattle.texts.specs.Place.{place-from};
+ghost use Rattle.texts.specs.Parts.{bytes-in};
 ghost use Rattle.report.specs.Lines.{hasLine, lineEnd, nextLine, lineAt, behindLine, WholeLine};
-use tokens::place::Place;
-use tokens::place::behind;
-use tokens::place::past;
-use tokens::run::Run;
-use tokens::run::run_end;
+use lexis::run::Run;
+use lexis::run::run_end;
+use texts::place::Place;
+use texts::place::behind;
+use texts::place::past;
 
 // Is there a line from `at` on? At the text's end, so behind a last newline, there is none.
 pub fn has_line(text: &[u8], at: usize) -> bool

@@ -1,7 +1,7 @@
 // A reader of a text's lines. It holds the lent text and its own place, and hands out one line after the other.
 // Its functions take it apart and leave the work to those on a slice and a number; `line_from` needs no reader of its caller.
 ghost use mathlib.Core.Path.{_≡_};
-ghost use Rattle.tokens.specs.Tokens.{bytes-in};
+ghost use Rattle.texts.specs.Parts.{bytes-in};
 ghost use Rattle.report.specs.Lines.{lineAt};
 ghost use Rattle.report.specs.Reader.{readerAt, hasNext, next, behind};
 use crate::line::behind_line;

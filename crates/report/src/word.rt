@@ -1,9 +1,9 @@
 // The words that a report starts with, and the solver's code that goes with each.
 ghost use mathlib.Core.Path.{_≡_};
 ghost use Rattle.report.specs.Word.{startsWith, agrees};
-use tokens::parts::bytes_in;
-use tokens::parts::same_bytes;
-use tokens::place::span_from;
+use texts::parts::bytes_in;
+use texts::parts::same_bytes;
+use texts::place::span_from;
 
 pub enum Word {
     Answer,

@@ -8,10 +8,10 @@ use lib.Dec.{ltb}
 use lib.ListN.{length, take, drop, length-take, length-drop, drop-of-length-le}
 use lib.Seq.{take-nil, drop-nil, drop-drop}
 use borrow.Author.Tests.{ltb-true, ltb-false, lt-ltb, le-ltb}
-use Rattle.tokens.specs.declared.place.Place.{Place}
-use Rattle.tokens.specs.declared.place.Span.{Span}
-use Rattle.tokens.specs.Tokens.{part}
-use Rattle.tokens.specs.Places.{span-from}
+use Rattle.texts.specs.declared.place.Place.{Place}
+use Rattle.texts.specs.declared.place.Span.{Span}
+use Rattle.texts.specs.Parts.{part}
+use Rattle.texts.specs.Places.{span-from}
 use Rattle.meaning.specs.Rules.{Bytes}
 use Rattle.names.specs.Texts.{bytes-at}
 use Rattle.names.specs.declared.Found.{Found}

@@ -3,7 +3,7 @@ use mathlib.Core.Path.{_≡_}
 use mathlib.Core.List.{List, _++_}
 use Prim.Native.Nat.{ℕ, _+_, _≤_}
 use lib.ListN.{length}
-use Rattle.tokens.specs.Places.{span-from}
+use Rattle.texts.specs.Places.{span-from}
 use Rattle.meaning.specs.Rules.{Bytes}
 use Rattle.names.specs.Texts.{bytes-at}
 use Rattle.names.specs.Table.{capacity, names-of, Table}

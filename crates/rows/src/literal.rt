@@ -5,10 +5,10 @@ ghost use Prim.Native.Nat.{_<_};
 ghost use Rattle.codes.specs.Arithmetic.{comparison-at, operation-at};
 ghost use Rattle.tables.specs.Rows.{no-operation};
 ghost use Rattle.syntax.specs.Builtins.{comparison-of, operation-of};
+use lexis::kind;
 use tables::BUILTIN;
 use tables::LITERAL;
-use tokens::kind;
-use tokens::sizes::MOST_ARGUMENTS;
+use texts::sizes::MOST_ARGUMENTS;
 
 // The number of an atom's predicate, and its arguments' numbers, as many as the arity says.
 pub struct AtomCodes {

@@ -2,7 +2,7 @@
 ghost use mathlib.Core.Path.{_≡_};
 ghost use mathlib.Core.Bool.{true};
 ghost use mathlib.Core.List.{[]};
-ghost use Rattle.tokens.specs.Tokens.{part};
+ghost use Rattle.texts.specs.Parts.{part};
 ghost use Rattle.meaning.specs.Values.{number, in-range};
 ghost use Rattle.codes.specs.Codes.{number-code};
 ghost use Rattle.names.specs.Numbering.{Interns};
@@ -11,8 +11,8 @@ ghost use Rattle.rows.specs.Growth.{Room, Source};
 use codes::FIRST_NUMBER;
 use names::Found;
 use names::intern;
-use tokens::parts::part;
-use tokens::place::Place;
+use texts::parts::part;
+use texts::place::Place;
 
 // The code of 0.
 const ZERO: u64 = FIRST_NUMBER + 1_000_000_000;

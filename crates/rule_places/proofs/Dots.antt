@@ -8,8 +8,8 @@ use native.Mathlib.Numerals.{add-one}
 use lib.Dec.{eqb}
 use lib.ListN.{length}
 use borrow.Author.Tests.{eqb-true, eqb-false, eq-eqb, ne-eqb}
-use Rattle.tokens.specs.declared.place.Place.{Place}
-use Rattle.tokens.specs.Place.{with-len}
+use Rattle.texts.specs.declared.place.Place.{Place}
+use Rattle.texts.specs.Place.{with-len}
 use Rattle.reading.specs.Reading.{Placed}
 use Rattle.meaning.specs.Rules.{Bytes}
 use Rattle.grammar.specs.Tokens.{Token}

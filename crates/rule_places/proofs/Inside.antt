@@ -6,8 +6,8 @@ use native.Mathlib.Omega.{arith}
 use lib.Dec.{eqb}
 use lib.ListN.{length}
 use borrow.Author.Tests.{eqb-true, eqb-false}
-use Rattle.tokens.specs.declared.place.Place.{Place}
-use Rattle.tokens.specs.Place.{Stands}
+use Rattle.texts.specs.declared.place.Place.{Place}
+use Rattle.texts.specs.Place.{Stands}
 use Rattle.reading.specs.Reading.{refused, wrong, short, over}
 use Rattle.reading.specs.Faults.{place-at}
 use Rattle.meaning.specs.Rules.{Bytes}

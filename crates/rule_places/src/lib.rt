@@ -1,16 +1,16 @@
 // Where the rules of a program stand: each from its first token to its dot.
 ghost use mathlib.Core.Path.{_≡_};
 ghost use mathlib.Core.Bool.{false};
-ghost use Rattle.tokens.specs.Place.{Stands};
+ghost use Rattle.texts.specs.Place.{Stands};
 ghost use Rattle.syntax.specs.Text.{placed-from, end-of};
 ghost use Rattle.rule_places.specs.Sentences.{dot-end, to-dot, sentence};
+use lexis::kind::DOT;
+use lexis::kind::END;
 use syntax::token::token_at;
-use tokens::kind::DOT;
-use tokens::kind::END;
-use tokens::place::Place;
-use tokens::place::TEXT_START;
-use tokens::place::past;
-use tokens::place::with_len;
+use texts::place::Place;
+use texts::place::TEXT_START;
+use texts::place::past;
+use texts::place::with_len;
 
 // Behind the first dot from `at` on; at the text's end where there is none.
 fn dot_end(text: &[u8], at: Place) -> Place

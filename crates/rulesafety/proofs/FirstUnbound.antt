@@ -7,10 +7,10 @@ use native.Mathlib.Omega.{arith}
 use lib.Dec.{eqb, ltb}
 use lib.ListN.{getD}
 use borrow.Author.Tests.{eqb-true, eqb-false, ltb-true, ltb-false}
-use Rattle.tokens.specs.declared.place.Place.{Place}
-use Rattle.tokens.specs.Place.{text-start}
-use Rattle.tokens.specs.Places.{place-in, places-in}
-use Rattle.tokens.proofs.PlaceTables.{places-length, place-among}
+use Rattle.texts.specs.declared.place.Place.{Place}
+use Rattle.texts.specs.Place.{text-start}
+use Rattle.texts.specs.Places.{place-in, places-in}
+use Rattle.texts.proofs.PlaceTables.{places-length, place-among}
 use Rattle.rulesafety.specs.declared.unbound.Unbound.{Unbound}
 use Rattle.rulesafety.specs.Unbound.{no-unbound, FirstUnbound, found, all-bound}
 

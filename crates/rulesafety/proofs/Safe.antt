@@ -13,7 +13,7 @@ use Rattle.meaning.specs.Safety.{term-bound, side-bound, atom-bound, literal-bo
 use Rattle.meaning.proofs.Booleans.{and-left, and-right, and-both}
 use Rattle.meaning.proofs.Sets.{every-more}
 use Rattle.meaning.proofs.Herbrand.{bound-where-safe}
-use Rattle.tokens.specs.declared.place.Place.{Place}
+use Rattle.texts.specs.declared.place.Place.{Place}
 use Rattle.rulesafety.specs.declared.unbound.Unbound.{Unbound}
 use Rattle.rulesafety.specs.Unbound.{FirstUnbound, found, all-bound}
 use Rattle.rulesafety.proofs.FirstUnbound.{AllBelow}

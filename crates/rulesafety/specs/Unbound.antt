@@ -4,9 +4,9 @@ use mathlib.Core.Bool.{Bool, true, false}
 use mathlib.Core.List.{List}
 use Prim.Native.Nat.{ℕ, _*_, _≤_, _<_}
 use lib.ListN.{getD, length}
-use Rattle.tokens.specs.declared.place.Place.{Place}
-use Rattle.tokens.specs.Place.{text-start}
-use Rattle.tokens.specs.Places.{place-stride}
+use Rattle.texts.specs.declared.place.Place.{Place}
+use Rattle.texts.specs.Place.{text-start}
+use Rattle.texts.specs.Places.{place-stride}
 use Rattle.grammar.specs.Sizes.{most-variables}
 use Rattle.rulesafety.specs.declared.unbound.Unbound.{Unbound}
 

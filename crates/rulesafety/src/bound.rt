@@ -16,7 +16,7 @@ use tables::POSITIVE;
 use tables::PREDICATE;
 use tables::SORT;
 use tables::TERMS;
-use tokens::sizes::MOST_VARIABLES;
+use texts::sizes::MOST_VARIABLES;
 
 // Of each variable of a rule, by its number, whether it is bound.
 pub struct Bound {

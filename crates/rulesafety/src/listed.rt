@@ -12,7 +12,7 @@ ghost use Rattle.rulesafety.specs.Listed.{no-rows, with-listed, Lists, p
 use tables::LITERAL;
 use tables::POSITIVE;
 use tables::SORT;
-use tokens::sizes::MOST_LITERALS;
+use texts::sizes::MOST_LITERALS;
 
 // Rows of literals: the first `count` of them.
 pub struct Rows {

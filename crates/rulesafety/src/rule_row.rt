@@ -21,7 +21,7 @@ use tables::ROWS;
 use tables::RULE;
 use tables::SORT;
 use tables::row::put_row;
-use tokens::sizes::MOST_HEADS;
+use texts::sizes::MOST_HEADS;
 
 // What a rule's own row says of it: how many heads it has, how many literals its body, whether one has an operation, the rows of the equations
 // that bind and of the positive literals.

@@ -1,11 +1,11 @@
 // The first variable of a rule that is not bound.
-ghost use Rattle.tokens.specs.Places.{places-in};
+ghost use Rattle.texts.specs.Places.{places-in};
 ghost use Rattle.rulesafety.specs.Bound.{bitsOf};
 ghost use Rattle.rulesafety.specs.Unbound.{Numbered, FirstUnbound};
 use crate::bound::Bound;
-use tokens::place::Place;
-use tokens::place::TEXT_START;
-use tokens::places::place_in;
+use texts::place::Place;
+use texts::place::TEXT_START;
+use texts::places::place_in;
 
 // The first variable that is not bound, at its first occurrence; or none was found, and the place is empty.
 pub struct Unbound {

@@ -10,13 +10,14 @@ use native.Mathlib.Omega.{arith}
 use lib.Dec.{leb, ltb}
 use lib.ListN.{length, drop}
 use borrow.Author.Tests.{leb-true}
-use Rattle.tokens.specs.Place.{newlines, since, line-of, column-of}
-use Rattle.tokens.specs.Class.{classOf}
-use Rattle.tokens.specs.Run.{isBlank, prefixLen}
+use Rattle.texts.specs.Place.{newlines, since, line-of, column-of}
+use Rattle.lexis.specs.Class.{classOf}
+use Rattle.lexis.specs.Run.{isBlank}
+use Rattle.texts.specs.Prefix.{prefixLen}
 use Rattle.tokens.specs.Gap.{startsComment, gap}
-use Rattle.tokens.specs.Strings.{between, longer, closing}
-use Rattle.tokens.specs.Number.{decimalAfter}
-use Rattle.tokens.specs.Spelling.{singleKind, pairKind, nameKind}
+use Rattle.lexis.specs.Strings.{between, longer, closing}
+use Rattle.lexis.specs.Number.{decimalAfter}
+use Rattle.lexis.specs.Spelling.{singleKind, pairKind, nameKind}
 use Rattle.tokens.specs.Token.{markAt, stringAt, otherAt, tokenAt, nextToken}
 use Rattle.tokens.specs.Tokens.{tokensUpTo, tokensFrom}
 use Rattle.meaning.specs.Sets.{In, every, any, Each}

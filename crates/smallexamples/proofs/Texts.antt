@@ -9,9 +9,9 @@ use native.Mathlib.Omega.{arith}
 use lib.Dec.{eqb, leb, ltb}
 use lib.ListN.{length}
 use borrow.Author.Tests.{leb-true}
-use Rattle.tokens.specs.declared.place.Place.{Place}
-use Rattle.tokens.specs.Sizes.{most-text}
-use Rattle.tokens.specs.Tokens.{part}
+use Rattle.texts.specs.declared.place.Place.{Place}
+use Rattle.texts.specs.Sizes.{most-text}
+use Rattle.texts.specs.Parts.{part}
 use Rattle.reading.specs.Reading.{Answer as Reading, tree, refused}
 use Rattle.reading.specs.Machine.{answer}
 use Rattle.meaning.specs.Rules.{Bytes, Fact, Rule, disjunctive}

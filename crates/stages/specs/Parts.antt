@@ -1,6 +1,6 @@
 -- The two lent texts, and a part of either.
-use Rattle.tokens.specs.declared.place.Place.{Place}
-use Rattle.tokens.specs.Place.{text-start}
+use Rattle.texts.specs.declared.place.Place.{Place}
+use Rattle.texts.specs.Place.{text-start}
 
 pub data Text : Type 0 where
   program output : Text

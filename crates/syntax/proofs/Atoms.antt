@@ -7,10 +7,10 @@ use Prim.Native.Nat.{ℕ, _≤_}
 use native.Mathlib.Omega.{arith}
 use lib.Dec.{eqb, leb}
 use borrow.Author.Tests.{ne-eqb, eqb-true, eqb-false, leb-true}
-use Rattle.tokens.specs.declared.place.Place.{Place}
-use Rattle.tokens.specs.Tokens.{part}
+use Rattle.texts.specs.declared.place.Place.{Place}
+use Rattle.texts.specs.Parts.{part}
 use Rattle.reading.specs.Reading.{refused}
-use Rattle.tokens.specs.Place.{Stands}
+use Rattle.texts.specs.Place.{Stands}
 use Rattle.meaning.specs.Rules.{Bytes, Term, Atom}
 use Rattle.meaning.specs.Values.{Value}
 use Rattle.grammar.specs.Tokens.{Token, opening}

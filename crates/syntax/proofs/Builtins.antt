@@ -7,13 +7,13 @@ use Prim.Native.Nat.{ℕ, _≤_, _<_}
 use native.Mathlib.Omega.{arith}
 use lib.Dec.{eqb, leb}
 use borrow.Author.Tests.{ne-eqb, eqb-true, eqb-false}
-use Rattle.tokens.specs.declared.place.Place.{Place}
-use Rattle.tokens.specs.Tokens.{part}
+use Rattle.texts.specs.declared.place.Place.{Place}
+use Rattle.texts.specs.Parts.{part}
 use Rattle.tokens.specs.Token.{nextToken}
-use Rattle.tokens.proofs.KindNumber.{kind-at-number}
+use Rattle.lexis.proofs.KindNumber.{kind-at-number}
 use Rattle.reading.specs.Reading.{refused}
 use Rattle.meaning.specs.Domain.{Comparison}
-use Rattle.tokens.specs.Place.{Stands}
+use Rattle.texts.specs.Place.{Stands}
 use Rattle.meaning.specs.Rules.{Bytes, Term, plain, Literal, builtin, Side}
 use Rattle.meaning.specs.Values.{Value}
 use Rattle.grammar.specs.Tokens.{Token, comparison}

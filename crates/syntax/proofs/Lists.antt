@@ -6,7 +6,7 @@ use Prim.Native.Nat.{ℕ, suc, _+_}
 use native.Mathlib.Omega.{arith}
 use lib.Dec.{leb, ltb}
 use borrow.Author.Tests.{leb-true, leb-false, lt-ltb, le-ltb}
-use Rattle.tokens.specs.Place.{Stands, past}
+use Rattle.texts.specs.Place.{Stands, past}
 use Rattle.meaning.specs.Rules.{Bytes}
 use Rattle.grammar.specs.Tokens.{comma}
 use Rattle.grammar.specs.Trees.{Sequence, _then_, count}

@@ -1,7 +1,7 @@
 -- The answer of the grammar's machine over a whole text is its reading.
 use mathlib.Core.Path.{_≡_}
 use mathlib.Core.Bool.{Bool}
-use Rattle.tokens.specs.declared.place.Place.{Place}
+use Rattle.texts.specs.declared.place.Place.{Place}
 use Rattle.reading.specs.Reading.{Answer}
 use Rattle.reading.specs.Machine.{answer}
 use Rattle.meaning.specs.Rules.{Bytes}

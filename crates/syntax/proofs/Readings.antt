@@ -4,8 +4,8 @@ use mathlib.Core.Bool.{Bool, false}
 use Prim.Native.Nat.{ℕ, _≤_}
 use native.Mathlib.Omega.{arith}
 use mathlib.Core.List.{List}
-use Rattle.tokens.specs.declared.place.Place.{Place}
-use Rattle.tokens.specs.Place.{Stands}
+use Rattle.texts.specs.declared.place.Place.{Place}
+use Rattle.texts.specs.Place.{Stands}
 use Rattle.meaning.specs.Rules.{Bytes}
 use Rattle.grammar.specs.Variables.{met, Variables as Names}
 use Rattle.syntax.specs.Variables.{variables-of}

@@ -5,7 +5,7 @@ use Prim.Native.Nat.{ℕ, _≤_, _<_}
 use native.Mathlib.Omega.{arith}
 use lib.Dec.{leb, ltb}
 use borrow.Author.Tests.{leb-true, leb-false, lt-ltb, le-ltb}
-use Rattle.tokens.specs.Number.{capped}
+use Rattle.lexis.specs.Number.{capped}
 use Rattle.reading.specs.Reading.{Marked}
 use Rattle.grammar.specs.Tokens.{Token}
 use Rattle.syntax.specs.Terms.{wordCode}

@@ -8,8 +8,8 @@ use native.Mathlib.Omega.{arith}
 use lib.Dec.{eqb}
 use lib.ListN.{length}
 use borrow.Author.Tests.{eqb-true, eqb-false, le-ltb}
-use Rattle.tokens.specs.declared.place.Place.{Place}
-use Rattle.tokens.specs.Tokens.{part}
+use Rattle.texts.specs.declared.place.Place.{Place}
+use Rattle.texts.specs.Parts.{part}
 use Rattle.reading.specs.Reading.{Placed, tree, refused}
 use Rattle.reading.specs.Machine.{Step, walk}
 use Rattle.reading.proofs.Walks.{walk-on, walk-fault, walk-wrong, walk-end, walk-short, walk-same, walk-same-end}

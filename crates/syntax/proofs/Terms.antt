@@ -8,13 +8,13 @@ use native.Mathlib.Omega.{arith}
 use lib.Dec.{leb, ltb}
 use lib.ListN.{length}
 use borrow.Author.Tests.{ne-eqb, lt-ltb, le-ltb}
-use Rattle.tokens.specs.declared.place.Place.{Place}
-use Rattle.tokens.specs.Strings.{between}
-use Rattle.tokens.specs.Number.{capped, decimal}
-use Rattle.tokens.specs.Tokens.{part}
-use Rattle.tokens.proofs.Strings.{between-length}
+use Rattle.texts.specs.declared.place.Place.{Place}
+use Rattle.lexis.specs.Strings.{between}
+use Rattle.lexis.specs.Number.{capped, decimal}
+use Rattle.texts.specs.Parts.{part}
+use Rattle.lexis.proofs.Strings.{between-length}
 use Rattle.reading.specs.Reading.{_▹_}
-use Rattle.tokens.specs.Place.{past}
+use Rattle.texts.specs.Place.{past}
 use Rattle.meaning.specs.Rules.{Bytes, Term, constant, variable}
 use Rattle.meaning.specs.Values.{Value, same-bytes}
 use Rattle.grammar.specs.Tokens.{underscore, Token, number}

@@ -6,19 +6,19 @@ use Prim.Native.Nat.{ℕ, _+_, _≤_, _<_}
 use native.Mathlib.Omega.{arith}
 use lib.ListN.{length, length-take, length-drop}
 use borrow.Author.Tests.{eqb-true, eq-eqb, ne-eqb}
-use Rattle.tokens.specs.declared.kind.Kind.{Kind}
-use Rattle.tokens.specs.declared.kind.Kind.the-variants.{Name, Not, Variable, Anonymous, Number, Open, Close, Comma, Dot, If, Minus, Plus, Times, Equal, Unequal, AlsoUnequal, Less, AtMost, Greater, AtLeast, End, Stray, String, Bar}
+use Rattle.lexis.specs.declared.kind.Kind.{Kind}
+use Rattle.lexis.specs.declared.kind.Kind.the-variants.{Name, Not, Variable, Anonymous, Number, Open, Close, Comma, Dot, If, Minus, Plus, Times, Equal, Unequal, AlsoUnequal, Less, AtMost, Greater, AtLeast, End, Stray, String, Bar}
 use Rattle.tokens.specs.declared.Token.{Token as TextToken}
-use Rattle.tokens.specs.Kind.{kindNumber, isEnd}
+use Rattle.lexis.specs.Kind.{kindNumber, isEnd}
 use Rattle.tokens.specs.Token.{nextToken}
-use Rattle.tokens.specs.Tokens.{part}
-use Rattle.tokens.specs.Spelling.{kindOf}
-use Rattle.tokens.proofs.KindNumber.{kindAt, kind-at-number, at-most-bar}
+use Rattle.texts.specs.Parts.{part}
+use Rattle.lexis.specs.Spelling.{kindOf}
+use Rattle.lexis.proofs.KindNumber.{kindAt, kind-at-number, at-most-bar}
 use Rattle.tokens.proofs.Next.{inside, end-place, next-kind, onward}
-use Rattle.tokens.proofs.Counting.{past-countable as countable-past}
+use Rattle.texts.proofs.Counting.{past-countable as countable-past}
 use Rattle.tokens.proofs.OneLine.{next-stands, past-stands}
 use Rattle.tokens.proofs.TokenList.{tokens-end, tokens-more}
-use Rattle.tokens.specs.Place.{Stands, past, countless, Countable}
+use Rattle.texts.specs.Place.{Stands, past, countless, Countable}
 use Rattle.meaning.specs.Rules.{Bytes}
 use Rattle.grammar.specs.Tokens.{Token}
 use Rattle.grammar.specs.Moves.{symbol-number, comparison-number, sign-number, token-number}

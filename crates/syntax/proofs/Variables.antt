@@ -9,15 +9,15 @@ use native.Mathlib.Numerals.{add-one}
 use lib.ListN.{length, drop, getD, length-append, drop-of-length-le, List·getD-map, length-map}
 use lib.Seq.{drop-cons}
 use borrow.Author.Tests.{lt-ltb, le-ltb}
-use Rattle.tokens.specs.declared.place.Place.{Place}
-use Rattle.tokens.specs.Place.{text-start}
-use Rattle.tokens.specs.Places.{places-in, place-in}
-use Rattle.tokens.specs.Tokens.{part}
-use Rattle.tokens.specs.Kind.{kindNumber}
-use Rattle.tokens.specs.Class.{classOf}
-use Rattle.tokens.specs.Spelling.{kindOf}
-use Rattle.tokens.proofs.KindNumber.{kindAt}
-use Rattle.tokens.proofs.PlaceTables.{places-length, place-among}
+use Rattle.texts.specs.declared.place.Place.{Place}
+use Rattle.texts.specs.Place.{text-start}
+use Rattle.texts.specs.Places.{places-in, place-in}
+use Rattle.texts.specs.Parts.{part}
+use Rattle.lexis.specs.Kind.{kindNumber}
+use Rattle.lexis.specs.Class.{classOf}
+use Rattle.lexis.specs.Spelling.{kindOf}
+use Rattle.lexis.proofs.KindNumber.{kindAt}
+use Rattle.texts.proofs.PlaceTables.{places-length, place-among}
 use Rattle.tokens.proofs.Spelled.{spells}
 use Rattle.reading.specs.Reading.{_▹_}
 use Rattle.meaning.specs.Rules.{Bytes}

@@ -6,7 +6,7 @@ use mathlib.Core.List.{List, [], _∷_, _++_}
 use Prim.Native.Nat.{ℕ}
 use lib.Dec.{eqb, ltb}
 use lib.ListN.{length}
-use Rattle.tokens.specs.declared.place.Place.{Place}
+use Rattle.texts.specs.declared.place.Place.{Place}
 use Rattle.reading.specs.Reading.{Placed, Answer}
 use Rattle.reading.specs.Machine.{Step, Machine, walk}
 use Rattle.meaning.specs.Rules.{Bytes}

@@ -3,8 +3,8 @@ use mathlib.Core.Path.{_≡_}
 use mathlib.Core.Bool.{Bool, false}
 use mathlib.Core.List.{List}
 use Prim.Native.Nat.{ℕ, _≤_}
-use Rattle.tokens.specs.declared.place.Place.{Place}
-use Rattle.tokens.specs.Place.{Stands}
+use Rattle.texts.specs.declared.place.Place.{Place}
+use Rattle.texts.specs.Place.{Stands}
 use Rattle.reading.specs.Reading.{refused}
 use Rattle.meaning.specs.Rules.{Bytes}
 use Rattle.grammar.specs.Spelling.{Spelling}

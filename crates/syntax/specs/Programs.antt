@@ -1,7 +1,7 @@
 -- Whole texts: a program, or a facts line where `ground`.
 use mathlib.Core.Bool.{Bool}
 use Rattle.reading.specs.Reading.{Answer, Reading}
-use Rattle.tokens.specs.declared.place.Place.{Place}
+use Rattle.texts.specs.declared.place.Place.{Place}
 use Rattle.meaning.specs.Rules.{Bytes}
 use Rattle.grammar.specs.Trees.{Program}
 use Rattle.grammar.specs.Sizes.{language}

@@ -3,16 +3,17 @@ use mathlib.Core.Bool.{Bool, not}
 use mathlib.Core.List.{List, map}
 use Prim.Native.Nat.{ℕ, _+_}
 use lib.ListN.{length, getD}
-use Rattle.tokens.specs.declared.kind.Kind.{Kind}
-use Rattle.tokens.specs.declared.kind.Kind.the-variants.{Name, Not, Variable, Anonymous, Number, Open, Close, Comma, Dot, If, Minus, Plus, Times, Equal, Unequal, AlsoUnequal, Less, AtMost, Greater, AtLeast, End, Stray, String, Bar}
-use Rattle.tokens.specs.declared.place.Place.{Place}
+use Rattle.lexis.specs.declared.kind.Kind.{Kind}
+use Rattle.lexis.specs.declared.kind.Kind.the-variants.{Name, Not, Variable, Anonymous, Number, Open, Close, Comma, Dot, If, Minus, Plus, Times, Equal, Unequal, AlsoUnequal, Less, AtMost, Greater, AtLeast, End, Stray, String, Bar}
+use Rattle.texts.specs.declared.place.Place.{Place}
 use Rattle.tokens.specs.declared.Token.{Token as TextToken}
-use Rattle.tokens.specs.Kind.{kindNumber}
-use Rattle.tokens.specs.Strings.{between}
-use Rattle.tokens.specs.Number.{decimal}
+use Rattle.lexis.specs.Kind.{kindNumber}
+use Rattle.lexis.specs.Strings.{between}
+use Rattle.lexis.specs.Number.{decimal}
 use Rattle.tokens.specs.Token.{nextToken}
-use Rattle.tokens.specs.Tokens.{part, tokensFrom}
-use Rattle.tokens.specs.Place.{place-from}
+use Rattle.texts.specs.Parts.{part}
+use Rattle.tokens.specs.Tokens.{tokensFrom}
+use Rattle.texts.specs.Place.{place-from}
 use Rattle.reading.specs.Reading.{Placed}
 use Rattle.meaning.specs.Domain.{equal, unequal, less, at-most, greater, at-least}
 use Rattle.meaning.specs.Rules.{Bytes}

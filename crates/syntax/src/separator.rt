@@ -1,13 +1,13 @@
 // What stands behind one of several things: a comma before the next, or the mark behind the last.
 ghost use mathlib.Core.Path.{_≡_};
-ghost use Rattle.tokens.specs.Place.{Stands};
+ghost use Rattle.texts.specs.Place.{Stands};
 ghost use Rattle.syntax.specs.Arguments.{goneSeparator, Separates};
 use crate::token::Progress;
 use crate::token::token_at;
 use crate::word::WRONG;
-use tokens::kind::COMMA;
-use tokens::place::Place;
-use tokens::place::past;
+use lexis::kind::COMMA;
+use texts::place::Place;
+use texts::place::past;
 
 // A comma, or, where `last`, the mark.
 pub struct SeparatorRead {

@@ -2,8 +2,8 @@
 ghost use mathlib.Core.Path.{_≡_};
 ghost use mathlib.Core.Bool.{_&&_};
 ghost use lib.Dec.{leb};
-use tokens::kind::AT_LEAST;
-use tokens::kind::EQUAL;
+use lexis::kind::AT_LEAST;
+use lexis::kind::EQUAL;
 
 // Is it the kind of a comparison's sign?
 pub fn is_comparison(kind: u8) -> bool

@@ -1,10 +1,10 @@
 // The token at a place, as the productions see it, and how far reading has got.
 ghost use mathlib.Core.Path.{_≡_};
-ghost use Rattle.tokens.specs.Place.{Stands};
+ghost use Rattle.texts.specs.Place.{Stands};
 ghost use Rattle.syntax.specs.Text.{tokenRead};
-use tokens::kind::kind_number;
+use lexis::kind::kind_number;
+use texts::place::Place;
 use tokens::next_token;
-use tokens::place::Place;
 
 // A token: the number of its kind, and where it stands. Reading goes on behind it.
 pub struct TokenRead {

@@ -3,13 +3,13 @@ ghost use mathlib.Core.Path.{_≡_};
 ghost use mathlib.Core.List.{map};
 ghost use Prim.Native.Nat.{_*_, _≤_};
 ghost use lib.ListN.{length};
-ghost use Rattle.tokens.specs.Tokens.{part};
-ghost use Rattle.tokens.specs.Places.{place-stride, places-in};
+ghost use Rattle.texts.specs.Parts.{part};
+ghost use Rattle.texts.specs.Places.{place-stride, places-in};
 ghost use Rattle.syntax.specs.Variables.{first-among};
-use tokens::parts::part;
-use tokens::parts::same_bytes;
-use tokens::place::Place;
-use tokens::places::place_in;
+use texts::parts::part;
+use texts::parts::same_bytes;
+use texts::place::Place;
+use texts::places::place_in;
 
 // Which of the `met` variables has the same bytes as `place`: the number of the first, or how many there are.
 pub fn variable_number(text: &[u8], place: Place, variables: &[u32], met: usize) -> usize

@@ -2,9 +2,9 @@
 ghost use mathlib.Core.Path.{_≡_};
 ghost use Prim.Native.Nat.{_-_, _≤_};
 ghost use Rattle.syntax.specs.Terms.{wordCode};
-use tokens::place::Place;
-use tokens::place::with_len;
-use tokens::sizes::MOST_NAME;
+use texts::place::Place;
+use texts::place::with_len;
+use texts::sizes::MOST_NAME;
 
 // A token that the grammar can't have there.
 pub const WRONG: u8 = 2;

@@ -5,9 +5,9 @@ use mathlib.Core.List.{List}
 use Prim.Native.Nat.{ℕ, _-_, _≤_}
 use native.Mathlib.Omega.{arith}
 use lib.ListN.{length}
-use Rattle.tokens.specs.Place.{Stands, past}
-use Rattle.tokens.specs.Places.{places-in}
-use Rattle.tokens.proofs.PlaceTables.{places-length}
+use Rattle.texts.specs.Place.{Stands, past}
+use Rattle.texts.specs.Places.{places-in}
+use Rattle.texts.proofs.PlaceTables.{places-length}
 use Rattle.meaning.specs.Rules.{Bytes}
 use Rattle.syntax.specs.declared.token.TokenRead.{TokenRead}
 use Rattle.syntax.specs.Variables.{Fits}

@@ -8,20 +8,20 @@ use lib.Dec.{leb}
 use lib.ListN.{length, take, drop, length-take, length-drop}
 use lib.Seq.{take-take}
 use borrow.Author.Tests.{leb-true, lt-leb, le-leb, ne-eqb}
-use Rattle.tokens.specs.declared.place.Place.{Place}
-use Rattle.tokens.specs.declared.kind.Kind.the-variants.{String}
-use Rattle.tokens.specs.Kind.{kindNumber, isEnd, isStray}
-use Rattle.tokens.specs.Spelling.{kindOf}
-use Rattle.tokens.specs.Number.{capped, decimal}
-use Rattle.tokens.specs.Strings.{quote, IsString, between}
-use Rattle.tokens.specs.Place.{past, with-len}
-use Rattle.tokens.specs.Places.{places-in, with-place}
+use Rattle.texts.specs.declared.place.Place.{Place}
+use Rattle.lexis.specs.declared.kind.Kind.the-variants.{String}
+use Rattle.lexis.specs.Kind.{kindNumber, isEnd, isStray}
+use Rattle.lexis.specs.Spelling.{kindOf}
+use Rattle.lexis.specs.Number.{capped, decimal}
+use Rattle.lexis.specs.Strings.{quote, IsString, between}
+use Rattle.texts.specs.Place.{past, with-len}
+use Rattle.texts.specs.Places.{places-in, with-place}
 use Rattle.tokens.specs.Token.{nextToken}
-use Rattle.tokens.specs.Tokens.{part}
-use Rattle.tokens.proofs.Strings.{string-long, string-opened}
+use Rattle.texts.specs.Parts.{part}
+use Rattle.lexis.proofs.Strings.{string-long, string-opened}
 use Rattle.tokens.proofs.Spelled.{spells}
 use Rattle.tokens.proofs.Next.{not-empty}
-use Rattle.tokens.proofs.PlaceTables.{places-length, places-more, stands-storable}
+use Rattle.texts.proofs.PlaceTables.{places-length, places-more, stands-storable}
 use Rattle.meaning.specs.Rules.{Bytes}
 use Rattle.meaning.specs.Values.{number, in-range}
 use Rattle.grammar.specs.Sizes.{greatest-number}

@@ -4,10 +4,10 @@ use Prim.Native.Nat.{ℕ, _-_, _≤_}
 use mathlib.Core.Bool.{Bool}
 use mathlib.Core.List.{List}
 use lib.ListN.{length}
-use Rattle.tokens.specs.declared.place.Place.{Place}
-use Rattle.tokens.specs.Place.{Stands}
-use Rattle.tokens.specs.Places.{places-in}
-use Rattle.tokens.specs.Sizes.{most-text}
+use Rattle.texts.specs.declared.place.Place.{Place}
+use Rattle.texts.specs.Place.{Stands}
+use Rattle.texts.specs.Places.{places-in}
+use Rattle.texts.specs.Sizes.{most-text}
 use Rattle.meaning.specs.Rules.{Bytes}
 use Rattle.grammar.specs.Sizes.{most-variables}
 use Rattle.syntax.specs.declared.token.TokenRead.{TokenRead}

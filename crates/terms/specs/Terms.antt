@@ -5,11 +5,11 @@ use mathlib.Core.List.{List}
 use Prim.Native.Nat.{ℕ, _-_, _≤_}
 use lib.Dec.{leb}
 use lib.ListN.{length}
-use Rattle.tokens.specs.declared.place.Place.{Place}
-use Rattle.tokens.specs.Number.{capped, decimal}
-use Rattle.tokens.specs.Place.{past}
-use Rattle.tokens.specs.Places.{places-in, Storable}
-use Rattle.tokens.specs.Tokens.{part}
+use Rattle.texts.specs.declared.place.Place.{Place}
+use Rattle.lexis.specs.Number.{capped, decimal}
+use Rattle.texts.specs.Place.{past}
+use Rattle.texts.specs.Places.{places-in, Storable}
+use Rattle.texts.specs.Parts.{part}
 use Rattle.meaning.specs.Rules.{Bytes, Term}
 use Rattle.meaning.specs.Values.{Value}
 use Rattle.grammar.specs.Sizes.{greatest-number, most-variables}

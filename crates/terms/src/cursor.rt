@@ -1,7 +1,7 @@
 // Where reading stands in a text, and what it may find there.
 ghost use mathlib.Core.Path.{_≡_};
 ghost use Rattle.terms.specs.Cursors.{onward};
-use tokens::place::Place;
+use texts::place::Place;
 
 // `base`: where the text starts in the two texts. `at`: where reading stands in it. `ground`: it is a facts line, which has no variables,
 // no comments and no newlines. `over`: what stands here is one too many. `met`: how many variables of the rule have been met.

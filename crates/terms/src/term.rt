@@ -1,14 +1,22 @@
 // A term, read as its number: a name's or a string's code by its place in the table of names, a number's code, or a variable's number in the rule.
 ghost use mathlib.Core.Path.{_≡_};
-ghost use Rattle.tokens.specs.declared.kind.Kind.the-variants.{Name, String};
-ghost use Rattle.tokens.specs.Kind.{kindNumber};
-ghost use Rattle.tokens.specs.Place.{Stands, Countable};
+ghost use Rattle.lexis.specs.declared.kind.Kind.the-variants.{Name, String};
+ghost use Rattle.lexis.specs.Kind.{kindNumber};
+ghost use Rattle.texts.specs.Place.{Stands, Countable};
 ghost use Rattle.syntax.specs.Text.{next-of};
 ghost use Rattle.terms.specs.Cursors.{ReadyToken};
 ghost use Rattle.terms.specs.Terms.{stoppedTerm, goneTerm, numberTerm, Puttable, ReadyConstant, ReadyNameless, ReadsConstant, ReadsNameless, ReadsVariable, ReadsAnonymous, ReadsNegative, ReadsTerm};
 use crate::cursor::Cursor;
 use codes::FIRST_NAME;
 use codes::FIRST_STRING;
+use lexis::kind::ANONYMOUS;
+use lexis::kind::BAR;
+use lexis::kind::MINUS;
+use lexis::kind::NAME;
+use lexis::kind::NUMBER;
+use lexis::kind::STRAY;
+use lexis::kind::VARIABLE;
+use lexis::number::value;
 use rows::term::name_number;
 use rows::term::number_code;
 use syntax::token::Progress;
@@ -20,21 +28,13 @@ use syntax::word::OVER;
 use syntax::word::WRONG;
 use syntax::word::string_code;
 use syntax::word::word_code;
-use tokens::kind::ANONYMOUS;
-use tokens::kind::BAR;
-use tokens::kind::MINUS;
-use tokens::kind::NAME;
-use tokens::kind::NUMBER;
-use tokens::kind::STRAY;
-use tokens::kind::VARIABLE;
-use tokens::number::value;
-use tokens::parts::part;
-use tokens::place::Place;
-use tokens::place::past;
-use tokens::place::with_len;
-use tokens::places::put_place;
-use tokens::sizes::MOST_NUMBER;
-use tokens::sizes::MOST_VARIABLES;
+use texts::parts::part;
+use texts::place::Place;
+use texts::place::past;
+use texts::place::with_len;
+use texts::places::put_place;
+use texts::sizes::MOST_NUMBER;
+use texts::sizes::MOST_VARIABLES;
 
 // A term's number, and how many variables have been met behind it.
 pub struct TermRead {

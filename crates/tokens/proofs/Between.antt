@@ -6,17 +6,16 @@ use mathlib.Core.List.{List, [], _∷_}
 use lib.Dec.{eqb}
 use lib.ListN.{take}
 use borrow.Author.Tests.{eqb-true}
-use Rattle.tokens.specs.declared.class.Class.the-variants.{Other}
-use Rattle.tokens.specs.declared.kind.Kind.the-variants.{Stray}
-use Rattle.tokens.specs.Class.{classOf}
-use Rattle.tokens.specs.Run.{isBlank}
+use Rattle.lexis.specs.declared.class.Class.the-variants.{Other}
+use Rattle.lexis.specs.declared.kind.Kind.the-variants.{Stray}
+use Rattle.lexis.specs.Class.{classOf}
+use Rattle.lexis.specs.Run.{isBlank}
 use Rattle.tokens.specs.Gap.{startsComment, gap}
-use Rattle.tokens.specs.Strings.{quote}
-use Rattle.tokens.specs.Kind.{isStray}
-use Rattle.tokens.specs.Spelling.{singleKind, pairKind, kindOf}
-use Rattle.meaning.proofs.Booleans.{never-true}
-use Rattle.tokens.proofs.Conjunction.{both}
-use Rattle.tokens.proofs.Prefix.{prefix-none}
+use Rattle.lexis.specs.Strings.{quote}
+use Rattle.lexis.specs.Kind.{isStray}
+use Rattle.lexis.specs.Spelling.{singleKind, pairKind, kindOf}
+use Rattle.meaning.proofs.Booleans.{never-true, both}
+use Rattle.texts.proofs.Prefix.{prefix-none}
 use Rattle.tokens.proofs.Gaps.{no-gap}
 
 no-mark : (b : ℕ) → classOf b ≡ Other → eqb b quote ≡ false → singleKind b ≡ Stray → ((c : ℕ) → pairKind b c ≡ Stray) → (rest : List ℕ) → kindOf (b ∷ rest) ≡ Stray

@@ -3,15 +3,16 @@ use Prim.Native.Nat.{ℕ, suc}
 use mathlib.Core.Path.{_≡_, refl}
 use mathlib.Core.Bool.{Bool, true, false}
 use mathlib.Core.List.{List, [], _∷_}
-use Rattle.tokens.specs.declared.kind.Kind.{Kind}
-use Rattle.tokens.specs.declared.kind.Kind.the-variants.{Name, Not, Variable, Anonymous, Number, If, Minus, Times, Equal, Unequal, AlsoUnequal, Less, AtMost, AtLeast, Stray, String, Bar}
+use Rattle.lexis.specs.declared.kind.Kind.{Kind}
+use Rattle.lexis.specs.declared.kind.Kind.the-variants.{Name, Not, Variable, Anonymous, Number, If, Minus, Times, Equal, Unequal, AlsoUnequal, Less, AtMost, AtLeast, Stray, String, Bar}
 use Rattle.tokens.specs.declared.Token.{Token}
-use Rattle.tokens.specs.Class.{classOf}
-use Rattle.tokens.specs.Run.{isBlank, prefixLen}
+use Rattle.lexis.specs.Class.{classOf}
+use Rattle.lexis.specs.Run.{isBlank}
+use Rattle.texts.specs.Prefix.{prefixLen}
 use Rattle.tokens.specs.Gap.{startsComment, gap}
-use Rattle.tokens.specs.Strings.{longer, closing}
-use Rattle.tokens.specs.Spelling.{singleKind, pairKind, nameKind}
-use Rattle.tokens.specs.Place.{newlines, since, line-of, column-of}
+use Rattle.lexis.specs.Strings.{longer, closing}
+use Rattle.lexis.specs.Spelling.{singleKind, pairKind, nameKind}
+use Rattle.texts.specs.Place.{newlines, since, line-of, column-of}
 use Rattle.tokens.specs.Token.{markAt, stringAt, otherAt, tokenAt, nextToken}
 use Rattle.tokens.specs.Tokens.{tokensUpTo, tokensFrom}
 

@@ -9,14 +9,15 @@ use lib.Dec.{eqb}
 use lib.ListN.{length, getD, drop, length-drop}
 use lib.Seq.{drop-drop, getD-drop}
 use borrow.Author.Tests.{eqb-true}
-use Rattle.tokens.specs.declared.place.Place.{Place}
-use Rattle.tokens.specs.Run.{isBlank, inLine, prefixLen}
+use Rattle.meaning.proofs.Booleans.{both}
+use Rattle.texts.specs.declared.place.Place.{Place}
+use Rattle.lexis.specs.Run.{isBlank}
+use Rattle.texts.specs.Prefix.{inLine, prefixLen}
 use Rattle.tokens.specs.Gap.{startsComment, gap, comment}
-use Rattle.tokens.specs.Place.{Stands, along, countless, Countable}
-use Rattle.tokens.proofs.Conjunction.{both}
-use Rattle.tokens.proofs.Prefix.{prefix-nil, prefix-more, prefix-none, prefix-rest, prefix-wider}
-use Rattle.tokens.proofs.Every.{prefix-inside}
-use Rattle.tokens.proofs.Counting.{countable, along-stands}
+use Rattle.texts.specs.Place.{Stands, along, countless, Countable}
+use Rattle.texts.proofs.Prefix.{prefix-nil, prefix-more, prefix-none, prefix-rest, prefix-wider}
+use Rattle.texts.proofs.Every.{prefix-inside}
+use Rattle.texts.proofs.Counting.{countable, along-stands}
 
 pub gap-blank : (program : Bool) (b : ℕ) (rest : List ℕ) → isBlank program b ≡ true → gap program (b ∷ rest) ≡ suc (gap program rest)
 unfolding gap

@@ -9,22 +9,23 @@ use lib.Dec.{eqb, ltb}
 use lib.ListN.{length, getD, take}
 use lib.Seq.{length-take-le, getD-take}
 use borrow.Author.Tests.{eqb-true, eqb-false, eq-eqb, ne-eqb, ltb-true, ltb-false}
-use Rattle.tokens.specs.declared.class.Class.{Class}
-use Rattle.tokens.specs.declared.class.Class.the-variants.{Lower, Upper, Digit, Underscore, Other}
-use Rattle.tokens.specs.declared.run.Run.the-variants.{Word, Digits}
-use Rattle.tokens.specs.declared.kind.Kind.{Kind}
-use Rattle.tokens.specs.declared.place.Place.{Place}
-use Rattle.tokens.specs.declared.kind.Kind.the-variants.{Name, Not, Variable, Anonymous, Number, Stray, String}
-use Rattle.tokens.specs.Class.{classOf}
-use Rattle.tokens.specs.Run.{goesOn, prefixLen}
-use Rattle.tokens.specs.Strings.{quote, closing}
-use Rattle.tokens.specs.Kind.{isStray}
-use Rattle.tokens.specs.Spelling.{singleKind, pairKind, markKind, nameKind, every, numberKind, anonymousKind, stringKind, kindFrom, kindOf}
+use Rattle.lexis.specs.declared.class.Class.{Class}
+use Rattle.lexis.specs.declared.class.Class.the-variants.{Lower, Upper, Digit, Underscore, Other}
+use Rattle.lexis.specs.declared.run.Run.the-variants.{Word, Digits}
+use Rattle.lexis.specs.declared.kind.Kind.{Kind}
+use Rattle.texts.specs.declared.place.Place.{Place}
+use Rattle.lexis.specs.declared.kind.Kind.the-variants.{Name, Not, Variable, Anonymous, Number, Stray, String}
+use Rattle.lexis.specs.Class.{classOf}
+use Rattle.lexis.specs.Run.{goesOn}
+use Rattle.texts.specs.Prefix.{prefixLen, every}
+use Rattle.lexis.specs.Strings.{quote, closing}
+use Rattle.lexis.specs.Kind.{isStray}
+use Rattle.lexis.specs.Spelling.{singleKind, pairKind, markKind, nameKind, numberKind, anonymousKind, stringKind, kindFrom, kindOf}
 use Rattle.tokens.specs.Longest.{Longest}
 use Rattle.tokens.specs.Token.{markAt, stringAt, otherAt, startAt}
-use Rattle.tokens.proofs.Every.{prefix-inside, every-prefix, not-every-beyond, not-every-longer}
-use Rattle.tokens.proofs.Strings.{closing-inside, piece-kind}
-use Rattle.tokens.proofs.KindNumber.{is-stray}
+use Rattle.texts.proofs.Every.{prefix-inside, every-prefix, not-every-beyond, not-every-longer}
+use Rattle.lexis.proofs.Strings.{closing-inside, piece-kind}
+use Rattle.lexis.proofs.KindNumber.{is-stray}
 
 -- ---- each class of a first byte
 

@@ -8,23 +8,23 @@ use mathlib.Core.List.{List, []}
 use lib.Dec.{eqb, ltb}
 use lib.ListN.{length, getD, take, drop, length-drop}
 use borrow.Author.Tests.{ltb-true, ltb-false}
-use Rattle.tokens.specs.declared.class.Class.{Class}
-use Rattle.tokens.specs.declared.class.Class.the-variants.{Lower, Upper, Digit, Underscore, Other}
-use Rattle.tokens.specs.declared.kind.Kind.{Kind}
-use Rattle.tokens.specs.declared.kind.Kind.the-variants.{End, Stray, String}
-use Rattle.tokens.specs.declared.place.Place.{Place}
+use Rattle.lexis.specs.declared.class.Class.{Class}
+use Rattle.lexis.specs.declared.class.Class.the-variants.{Lower, Upper, Digit, Underscore, Other}
+use Rattle.lexis.specs.declared.kind.Kind.{Kind}
+use Rattle.lexis.specs.declared.kind.Kind.the-variants.{End, Stray, String}
+use Rattle.texts.specs.declared.place.Place.{Place}
 use Rattle.tokens.specs.declared.Token.{Token}
-use Rattle.tokens.specs.Class.{classOf}
-use Rattle.tokens.specs.Strings.{quote, closing}
+use Rattle.lexis.specs.Class.{classOf}
+use Rattle.lexis.specs.Strings.{quote, closing}
 use Rattle.tokens.specs.Gap.{gap}
-use Rattle.tokens.specs.Kind.{isEnd, isStray}
-use Rattle.tokens.specs.Spelling.{singleKind, pairKind, nameKind, kindOf}
+use Rattle.lexis.specs.Kind.{isEnd, isStray}
+use Rattle.lexis.specs.Spelling.{singleKind, pairKind, nameKind, kindOf}
 use Rattle.tokens.specs.Spells.{Spells}
 use Rattle.tokens.specs.Longest.{Longest, Found}
-use Rattle.tokens.specs.Place.{place-from, with-len}
+use Rattle.texts.specs.Place.{place-from, with-len}
 use Rattle.tokens.specs.Token.{standing, placed, markAt, stringAt, otherAt, startAt, tokenAt, nextToken}
-use Rattle.tokens.specs.Tokens.{part}
-use Rattle.tokens.proofs.Prefix.{drop-at}
+use Rattle.texts.specs.Parts.{part}
+use Rattle.texts.proofs.Prefix.{drop-at}
 use Rattle.tokens.proofs.Starts.{end-at, starts-at}
 use Rattle.tokens.proofs.Spelled.{spells, kind-of-spelled}
 use Rattle.tokens.proofs.Between.{token-no-gap}

@@ -7,29 +7,30 @@ use mathlib.Core.List.{List, [], _∷_}
 use lib.Dec.{eqb, ltb}
 use lib.ListN.{length, getD, take, drop, length-drop}
 use borrow.Author.Tests.{eqb-true, ltb-true, ltb-false}
-use Rattle.tokens.specs.declared.class.Class.{Class}
-use Rattle.tokens.specs.declared.class.Class.the-variants.{Lower, Upper, Digit, Underscore, Other}
-use Rattle.tokens.specs.declared.run.Run.the-variants.{Word, Digits}
-use Rattle.tokens.specs.declared.kind.Kind.{Kind}
-use Rattle.tokens.specs.declared.kind.Kind.the-variants.{Stray, String}
-use Rattle.tokens.specs.declared.place.Place.{Place}
+use Rattle.meaning.proofs.Booleans.{both}
+use Rattle.lexis.specs.declared.class.Class.{Class}
+use Rattle.lexis.specs.declared.class.Class.the-variants.{Lower, Upper, Digit, Underscore, Other}
+use Rattle.lexis.specs.declared.run.Run.the-variants.{Word, Digits}
+use Rattle.lexis.specs.declared.kind.Kind.{Kind}
+use Rattle.lexis.specs.declared.kind.Kind.the-variants.{Stray, String}
+use Rattle.texts.specs.declared.place.Place.{Place}
 use Rattle.tokens.specs.declared.Token.{Token}
-use Rattle.tokens.specs.Class.{classOf}
-use Rattle.tokens.specs.Run.{isBlank, inLine, goesOn, prefixLen}
-use Rattle.tokens.specs.Strings.{quote, closing}
+use Rattle.lexis.specs.Class.{classOf}
+use Rattle.lexis.specs.Run.{isBlank, goesOn}
+use Rattle.texts.specs.Prefix.{inLine, prefixLen, every}
+use Rattle.lexis.specs.Strings.{quote, closing}
 use Rattle.tokens.specs.Gap.{gap}
-use Rattle.tokens.specs.Kind.{isEnd, isStray}
-use Rattle.tokens.specs.Spelling.{pairKind, markKind, every, numberKind, stringKind, kindFrom, kindOf}
+use Rattle.lexis.specs.Kind.{isEnd, isStray}
+use Rattle.lexis.specs.Spelling.{pairKind, markKind, numberKind, stringKind, kindFrom, kindOf}
 use Rattle.tokens.specs.Longest.{Found}
-use Rattle.tokens.specs.Place.{place-from, Stands, past}
+use Rattle.texts.specs.Place.{place-from, Stands, past}
 use Rattle.tokens.specs.Token.{nextToken}
-use Rattle.tokens.proofs.Conjunction.{both}
-use Rattle.tokens.proofs.Prefix.{drop-at, prefix-more}
-use Rattle.tokens.proofs.Every.{not-every-beyond}
-use Rattle.tokens.proofs.Strings.{closing-in-line}
-use Rattle.tokens.proofs.Counting.{from-stands, along-stands}
+use Rattle.texts.proofs.Prefix.{drop-at, prefix-more}
+use Rattle.texts.proofs.Every.{not-every-beyond}
+use Rattle.lexis.proofs.Strings.{closing-in-line}
+use Rattle.texts.proofs.Counting.{from-stands, along-stands}
 use Rattle.tokens.proofs.Gaps.{behind-gap}
-use Rattle.tokens.proofs.KindNumber.{is-stray}
+use Rattle.lexis.proofs.KindNumber.{is-stray}
 use Rattle.tokens.proofs.Between.{blank-stray}
 use Rattle.tokens.proofs.Next.{inside, end-place, next-found, next-kind}
 

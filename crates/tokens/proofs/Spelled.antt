@@ -7,22 +7,23 @@ use mathlib.Core.List.{List, [], _∷_, _++_}
 use lib.Dec.{eqb}
 use lib.ListN.{length, getD, drop, length-append}
 use borrow.Author.Tests.{eqb-true, eqb-false, eq-eqb}
-use Rattle.tokens.specs.declared.class.Class.{Class}
-use Rattle.tokens.specs.declared.class.Class.the-variants.{Lower, Upper, Digit, Underscore, Other}
-use Rattle.tokens.specs.declared.run.Run.{Run}
-use Rattle.tokens.specs.declared.run.Run.the-variants.{Word, Digits}
-use Rattle.tokens.specs.declared.kind.Kind.{Kind}
-use Rattle.tokens.specs.declared.kind.Kind.the-variants.{Name, Not, Variable, Anonymous, Number, Open, Close, Comma, Dot, If, Minus, Plus, Times, Equal, Unequal, AlsoUnequal, Less, AtMost, Greater, AtLeast, End, Stray, String, Bar}
-use Rattle.tokens.specs.Class.{classOf}
-use Rattle.tokens.specs.Run.{goesOn}
-use Rattle.tokens.specs.Strings.{quote, Quotable, quoted, closing}
-use Rattle.tokens.specs.Kind.{isStray}
-use Rattle.tokens.specs.Spelling.{singleKind, pairKind, markKind, nameKind, every, numberKind, anonymousKind, stringKind, kindFrom, kindOf}
+use Rattle.meaning.proofs.Booleans.{both}
+use Rattle.lexis.specs.declared.class.Class.{Class}
+use Rattle.lexis.specs.declared.class.Class.the-variants.{Lower, Upper, Digit, Underscore, Other}
+use Rattle.lexis.specs.declared.run.Run.{Run}
+use Rattle.lexis.specs.declared.run.Run.the-variants.{Word, Digits}
+use Rattle.lexis.specs.declared.kind.Kind.{Kind}
+use Rattle.lexis.specs.declared.kind.Kind.the-variants.{Name, Not, Variable, Anonymous, Number, Open, Close, Comma, Dot, If, Minus, Plus, Times, Equal, Unequal, AlsoUnequal, Less, AtMost, Greater, AtLeast, End, Stray, String, Bar}
+use Rattle.lexis.specs.Class.{classOf}
+use Rattle.lexis.specs.Run.{goesOn}
+use Rattle.lexis.specs.Strings.{quote, Quotable, quoted, closing}
+use Rattle.lexis.specs.Kind.{isStray}
+use Rattle.lexis.specs.Spelling.{singleKind, pairKind, markKind, nameKind, numberKind, anonymousKind, stringKind, kindFrom, kindOf}
+use Rattle.texts.specs.Prefix.{every}
 use Rattle.tokens.specs.Spells.{spelling, Starts, Spells}
-use Rattle.tokens.proofs.Classes.{underscore-byte}
-use Rattle.tokens.proofs.Strings.{string-kind, closed-ends, quotable-closing}
-use Rattle.tokens.proofs.Every.{every-nil}
-use Rattle.tokens.proofs.Conjunction.{both}
+use Rattle.lexis.proofs.Classes.{underscore-byte}
+use Rattle.lexis.proofs.Strings.{string-kind, closed-ends, quotable-closing}
+use Rattle.texts.proofs.Every.{every-nil}
 
 -- ---- from the kind to the bytes
 

@@ -7,19 +7,20 @@ use mathlib.Core.List.{List}
 use lib.ListN.{length, getD, drop, drop-of-length-le}
 use lib.Seq.{getD-drop}
 use borrow.Author.Tests.{eq-eqb, ne-eqb}
-use Rattle.tokens.specs.declared.class.Class.{Class}
-use Rattle.tokens.specs.declared.class.Class.the-variants.{Lower, Upper, Digit, Underscore, Other}
-use Rattle.tokens.specs.declared.run.Run.the-variants.{Word, Digits}
-use Rattle.tokens.specs.declared.kind.Kind.{Kind}
-use Rattle.tokens.specs.declared.place.Place.{Place}
-use Rattle.tokens.specs.declared.kind.Kind.the-variants.{Variable, Anonymous, Number, End}
-use Rattle.tokens.specs.Class.{classOf}
-use Rattle.tokens.specs.Run.{goesOn, prefixLen}
-use Rattle.tokens.specs.Spelling.{nameKind}
+use Rattle.lexis.specs.declared.class.Class.{Class}
+use Rattle.lexis.specs.declared.class.Class.the-variants.{Lower, Upper, Digit, Underscore, Other}
+use Rattle.lexis.specs.declared.run.Run.the-variants.{Word, Digits}
+use Rattle.lexis.specs.declared.kind.Kind.{Kind}
+use Rattle.texts.specs.declared.place.Place.{Place}
+use Rattle.lexis.specs.declared.kind.Kind.the-variants.{Variable, Anonymous, Number, End}
+use Rattle.lexis.specs.Class.{classOf}
+use Rattle.lexis.specs.Run.{goesOn}
+use Rattle.texts.specs.Prefix.{prefixLen}
+use Rattle.lexis.specs.Spelling.{nameKind}
 use Rattle.tokens.specs.Token.{standing, placed, markAt, stringAt, otherAt, startAt, tokenAt}
-use Rattle.tokens.specs.Place.{place-from, Stands}
-use Rattle.tokens.proofs.Prefix.{drop-at}
-use Rattle.tokens.proofs.Counting.{line-past, column-past}
+use Rattle.texts.specs.Place.{place-from, Stands}
+use Rattle.texts.proofs.Prefix.{drop-at}
+use Rattle.texts.proofs.Counting.{line-past, column-past}
 
 pub end-at : (s : List ℕ) (at : ℕ) → length s ≤ at → tokenAt s at ≡ placed s End (length s) 0
 unfolding tokenAt

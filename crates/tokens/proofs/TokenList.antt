@@ -7,7 +7,7 @@ use mathlib.Core.Logic.{inl, inr}
 use mathlib.Core.List.{List, [], _∷_, List·Memᴰ, List·Memᴰ·not-nil, List·Memᴰ·cases-cons}
 use lib.ListN.{length}
 use Rattle.tokens.specs.declared.Token.{Token}
-use Rattle.tokens.specs.Kind.{isEnd}
+use Rattle.lexis.specs.Kind.{isEnd}
 use Rattle.tokens.specs.Token.{nextToken}
 use Rattle.tokens.specs.Tokens.{after, tokensUpTo, tokensFrom, InOrder}
 use Rattle.tokens.proofs.Next.{inside, not-empty, forward, onward}

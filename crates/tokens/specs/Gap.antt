@@ -4,7 +4,7 @@ use mathlib.Core.Bool.{Bool, true, cond, not, _&&_}
 use mathlib.Core.List.{List, [], _∷_}
 use lib.Dec.{eqb}
 use lib.ListN.{getD}
-use Rattle.tokens.specs.Run.{isBlank}
+use Rattle.lexis.specs.Run.{isBlank}
 
 -- the text starts with a comment: a `%`, and no `*` after it
 unfoldable pub startsComment : List ℕ → Bool

@@ -4,12 +4,12 @@ use mathlib.Core.Path.{_≡_}
 use mathlib.Core.Bool.{false}
 use mathlib.Core.List.{List}
 use lib.ListN.{length, take, drop}
-use Rattle.tokens.specs.declared.kind.Kind.{Kind}
-use Rattle.tokens.specs.declared.kind.Kind.the-variants.{Stray}
+use Rattle.lexis.specs.declared.kind.Kind.{Kind}
+use Rattle.lexis.specs.declared.kind.Kind.the-variants.{Stray}
 use Rattle.tokens.specs.declared.Token.{Token}
-use Rattle.tokens.specs.Kind.{isEnd}
-use Rattle.tokens.specs.Spelling.{kindOf}
-use Rattle.tokens.specs.Place.{place-from}
+use Rattle.lexis.specs.Kind.{isEnd}
+use Rattle.lexis.specs.Spelling.{kindOf}
+use Rattle.texts.specs.Place.{place-from}
 
 -- the first `len` bytes are a token of this kind, and no more bytes are a token of any kind; where no bytes are one, the first is stray
 pub record Longest (text : List ℕ) (kind : Kind) (len : ℕ) : Type 0 where

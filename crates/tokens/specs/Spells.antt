@@ -4,16 +4,16 @@ use mathlib.Core.Path.{_≡_}
 use mathlib.Core.Bool.{true}
 use mathlib.Core.List.{List, [], _∷_}
 use lib.ListN.{length, getD, drop}
-use Rattle.tokens.specs.declared.class.Class.{Class}
-use Rattle.tokens.specs.declared.class.Class.the-variants.{Lower, Upper, Digit}
-use Rattle.tokens.specs.declared.run.Run.{Run}
-use Rattle.tokens.specs.declared.run.Run.the-variants.{Word, Digits}
-use Rattle.tokens.specs.declared.kind.Kind.{Kind}
-use Rattle.tokens.specs.declared.kind.Kind.the-variants.{Name, Not, Variable, Anonymous, Number, Open, Close, Comma, Dot, If, Minus, Plus, Times, Equal, Unequal, AlsoUnequal, Less, AtMost, Greater, AtLeast, End, Stray, String, Bar}
-use Rattle.tokens.specs.Class.{classOf}
-use Rattle.tokens.specs.Run.{goesOn}
-use Rattle.tokens.specs.Spelling.{every}
-use Rattle.tokens.specs.Strings.{IsString}
+use Rattle.lexis.specs.declared.class.Class.{Class}
+use Rattle.lexis.specs.declared.class.Class.the-variants.{Lower, Upper, Digit}
+use Rattle.lexis.specs.declared.run.Run.{Run}
+use Rattle.lexis.specs.declared.run.Run.the-variants.{Word, Digits}
+use Rattle.lexis.specs.declared.kind.Kind.{Kind}
+use Rattle.lexis.specs.declared.kind.Kind.the-variants.{Name, Not, Variable, Anonymous, Number, Open, Close, Comma, Dot, If, Minus, Plus, Times, Equal, Unequal, AlsoUnequal, Less, AtMost, Greater, AtLeast, End, Stray, String, Bar}
+use Rattle.lexis.specs.Class.{classOf}
+use Rattle.lexis.specs.Run.{goesOn}
+use Rattle.texts.specs.Prefix.{every}
+use Rattle.lexis.specs.Strings.{IsString}
 
 -- the bytes of `not`, `_` and the marks; words, numbers and strings have many spellings
 abbrev pub spelling : Kind → List ℕ

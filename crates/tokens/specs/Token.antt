@@ -4,20 +4,21 @@ use mathlib.Core.Bool.{Bool, false, cond}
 use mathlib.Core.List.{List, [], _∷_}
 use lib.Dec.{eqb}
 use lib.ListN.{length, getD, drop}
-use Rattle.tokens.specs.declared.class.Class.{Class}
-use Rattle.tokens.specs.declared.class.Class.the-variants.{Lower, Upper, Digit, Underscore, Other}
-use Rattle.tokens.specs.declared.run.Run.the-variants.{Word, Digits}
-use Rattle.tokens.specs.declared.kind.Kind.{Kind}
-use Rattle.tokens.specs.declared.kind.Kind.the-variants.{Variable, Anonymous, Number, End, Stray, String}
+use Rattle.lexis.specs.declared.class.Class.{Class}
+use Rattle.lexis.specs.declared.class.Class.the-variants.{Lower, Upper, Digit, Underscore, Other}
+use Rattle.lexis.specs.declared.run.Run.the-variants.{Word, Digits}
+use Rattle.lexis.specs.declared.kind.Kind.{Kind}
+use Rattle.lexis.specs.declared.kind.Kind.the-variants.{Variable, Anonymous, Number, End, Stray, String}
 use Rattle.tokens.specs.declared.Token.{Token}
-use Rattle.tokens.specs.Class.{classOf}
-use Rattle.tokens.specs.Run.{goesOn, prefixLen}
-use Rattle.tokens.specs.Strings.{quote, closing}
+use Rattle.lexis.specs.Class.{classOf}
+use Rattle.lexis.specs.Run.{goesOn}
+use Rattle.texts.specs.Prefix.{prefixLen}
+use Rattle.lexis.specs.Strings.{quote, closing}
 use Rattle.tokens.specs.Gap.{gap}
-use Rattle.tokens.specs.Kind.{isStray}
-use Rattle.tokens.specs.Spelling.{singleKind, pairKind, nameKind}
-use Rattle.tokens.specs.declared.place.Place.{Place}
-use Rattle.tokens.specs.Place.{place-from, with-len}
+use Rattle.lexis.specs.Kind.{isStray}
+use Rattle.lexis.specs.Spelling.{singleKind, pairKind, nameKind}
+use Rattle.texts.specs.declared.place.Place.{Place}
+use Rattle.texts.specs.Place.{place-from, with-len}
 
 -- a token of a kind and a length, that starts where a place does
 abbrev pub standing : Kind → Place → ℕ → Token

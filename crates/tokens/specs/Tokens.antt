@@ -2,20 +2,10 @@
 use Prim.Native.Nat.{ℕ, zero, suc, _+_, _-_, _≤_}
 use mathlib.Core.Bool.{Bool, true, false}
 use mathlib.Core.List.{List, [], _∷_}
-use lib.ListN.{length, take, drop}
-use Rattle.tokens.specs.declared.place.Place.{Place}
-use Rattle.tokens.specs.declared.place.Span.{Span}
+use lib.ListN.{length}
 use Rattle.tokens.specs.declared.Token.{Token}
-use Rattle.tokens.specs.Kind.{isEnd}
+use Rattle.lexis.specs.Kind.{isEnd}
 use Rattle.tokens.specs.Token.{nextToken}
-
--- the bytes of a span
-abbrev pub bytes-in : List ℕ → Span → List ℕ
-bytes-in text span = take (span .len) (drop (span .start) text)
-
--- the bytes of a place
-abbrev pub part : List ℕ → Place → List ℕ
-part text place = take (place .len) (drop (place .start) text)
 
 -- where reading goes on behind a token
 abbrev pub after : Token → ℕ

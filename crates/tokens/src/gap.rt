@@ -3,16 +3,17 @@ ghost use mathlib.Core.Path.{_≡_};
 ghost use mathlib.Core.Bool.{true};
 ghost use Prim.Native.Nat.{_+_};
 ghost use lib.ListN.{drop};
-ghost use Rattle.tokens.specs.Run.{isBlank, prefixLen};
+ghost use Rattle.lexis.specs.Run.{isBlank};
+ghost use Rattle.texts.specs.Prefix.{prefixLen};
 ghost use Rattle.tokens.specs.Gap.{startsComment, gap};
-ghost use Rattle.tokens.specs.Place.{Stands};
-use crate::place::Place;
-use crate::place::along;
-use crate::place::behind;
-use crate::run::Run;
-use crate::run::byte_at;
-use crate::run::is_blank;
-use crate::run::run_end;
+ghost use Rattle.texts.specs.Place.{Stands};
+use lexis::run::Run;
+use lexis::run::byte_at;
+use lexis::run::is_blank;
+use lexis::run::run_end;
+use texts::place::Place;
+use texts::place::along;
+use texts::place::behind;
 
 // Does a comment start at `at`? At `%*` none does.
 fn starts_comment(text: &[u8], at: usize) -> bool

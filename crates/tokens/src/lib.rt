@@ -1,36 +1,27 @@
-// Bytes to tokens: a byte's class, blanks and comments, words, numbers, strings, marks, and the token at a place.
+// Bytes to tokens: blanks and comments, and the longest token at a place, with its line and column.
 ghost use mathlib.Core.Path.{_≡_};
 ghost use mathlib.Core.Bool.{false};
 ghost use Prim.Native.Nat.{_+_, _<_};
 ghost use lib.ListN.{length, drop};
-ghost use Rattle.tokens.specs.Place.{Stands};
-ghost use Rattle.tokens.specs.Strings.{closing};
+ghost use Rattle.texts.specs.Place.{Stands};
+ghost use Rattle.lexis.specs.Strings.{closing};
 ghost use Rattle.tokens.specs.Token.{standing, markAt, stringAt, otherAt, tokenAt, nextToken};
-use class::Class;
-use class::class_of;
-use kind::Kind;
-use kind::STRAY;
-use kind::kind_number;
-use kind::name_kind;
-use kind::pair_kind;
-use kind::single_kind;
-use place::Place;
-use place::with_len;
-use run::Run;
-use run::byte_at;
-use run::run_end;
-use string::closing;
+use lexis::class::Class;
+use lexis::class::class_of;
+use lexis::kind::Kind;
+use lexis::kind::STRAY;
+use lexis::kind::kind_number;
+use lexis::kind::name_kind;
+use lexis::kind::pair_kind;
+use lexis::kind::single_kind;
+use lexis::run::Run;
+use lexis::run::byte_at;
+use lexis::run::run_end;
+use lexis::string::closing;
+use texts::place::Place;
+use texts::place::with_len;
 
-pub mod class;
 mod gap;
-pub mod kind;
-pub mod number;
-pub mod parts;
-pub mod place;
-pub mod places;
-pub mod run;
-pub mod sizes;
-mod string;
 
 // A token: what it is, and where it stands.
 pub struct Token {

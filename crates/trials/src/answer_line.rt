@@ -11,8 +11,8 @@ use fields::answer::Answer;
 use fields::answer::Kind;
 use fields::answer::Part;
 use fields::answer::Text;
-use tokens::parts::least;
-use tokens::sizes::MOST_LITERALS;
+use texts::parts::least;
+use texts::sizes::MOST_LITERALS;
 
 // A blank and a number of a list.
 fn item(n: u64) {

@@ -9,8 +9,8 @@ use frames::ends_with;
 use frames::newline;
 use frames::number_behind;
 use frames::read_bytes;
-use tokens::parts::bytes_in;
-use tokens::place::span_from;
+use texts::parts::bytes_in;
+use texts::place::span_from;
 
 // The texts are the program, of this length, and the output behind it.
 fn trial(texts: &[u8], program_len: usize, output_len: usize, code: u64, places: &mut [u16]) {

@@ -12,8 +12,8 @@ use frames::number_behind;
 use frames::read_bytes;
 use plain::Written;
 use plain::write_plain;
-use tokens::parts::bytes_in;
-use tokens::place::span_from;
+use texts::parts::bytes_in;
+use texts::place::span_from;
 
 // What a byte of the buffer is before the call.
 fn pattern(at: usize) -> u8 {

@@ -1,6 +1,6 @@
 // An answer's words, numbers and places, on standard output.
 use libc::STDOUT_FILENO;
-use tokens::place::Place;
+use texts::place::Place;
 
 pub fn say(words: &[u8]) {
     io::write_all(STDOUT_FILENO, words);

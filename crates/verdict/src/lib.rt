@@ -12,8 +12,8 @@ use fields::answer::unsatisfied;
 use judge::Judgement;
 use judge::Kind;
 use rule_places::rule_place;
-use tokens::parts::least;
-use tokens::sizes::MOST_LITERALS;
+use texts::parts::least;
+use texts::sizes::MOST_LITERALS;
 
 // The refusal where arithmetic leaves the range.
 const OUT_OF_RANGE: u8 = 8;

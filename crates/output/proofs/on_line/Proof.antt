@@ -1,7 +1,7 @@
 -- `on_line` meets its contract: the line's start, counted on. Assumes nothing.
 use mathlib.Core.Path.{ap, _∙_}
-use Rattle.tokens.specs.declared.place.Place.{Place}
-use Rattle.tokens.specs.Place.{with-len}
+use Rattle.texts.specs.declared.place.Place.{Place}
+use Rattle.texts.specs.Place.{with-len}
 use borrow.Author.Needs.{needs}
 use Rattle.output.proofs.on_line.Statement.{statement}
 use Rattle.output.proofs.on_line.Tie as tie

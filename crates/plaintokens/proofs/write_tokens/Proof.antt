@@ -5,7 +5,7 @@ use native.Mathlib.Omega.{arith}
 use mathlib.Core.Bool.{false}
 use mathlib.Core.Path.{refl}
 use lib.ListN.{length}
-use Rattle.tokens.proofs.Counting.{start-stands}
+use Rattle.texts.proofs.Counting.{start-stands}
 use Rattle.syntax.proofs.Tokens.{past-countable, past-here}
 use Rattle.plaintokens.proofs.Puts.{put-length}
 use Rattle.plaintokens.proofs.Turns.{SoFar, so-far-nothing, all-written, turn-room, turn-on, turn-less}

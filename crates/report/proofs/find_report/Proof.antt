@@ -2,7 +2,7 @@
 -- Assumes nothing.
 use mathlib.Core.Path.{subst}
 use borrow.Author.Needs.{needs}
-use Rattle.tokens.proofs.Counting.{start-stands}
+use Rattle.texts.proofs.Counting.{start-stands}
 use Rattle.report.specs.Around.{OutOfPlace}
 use Rattle.report.proofs.Reporting.{report-missing}
 use Rattle.report.proofs.find_report.Statement.{statement}

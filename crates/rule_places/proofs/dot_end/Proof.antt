@@ -5,7 +5,7 @@ use native.Mathlib.Omega.{arith}
 use mathlib.Core.Bool.{false}
 use mathlib.Core.Path.{_≡_, refl, sym as inv, ap, _∙_}
 use lib.ListN.{length}
-use Rattle.tokens.specs.Place.{Stands}
+use Rattle.texts.specs.Place.{Stands}
 use Rattle.syntax.specs.Text.{placed-from, end-of}
 use Rattle.syntax.proofs.Tokens.{within, place-stands, past-countable, past-here, forward, end-here}
 use Rattle.rule_places.specs.Sentences.{dot-end}

@@ -4,8 +4,8 @@ use Prim.Native.Nat.{_-_, _≤_}
 use native.Mathlib.Omega.{arith}
 use mathlib.Core.Bool.{false}
 use mathlib.Core.Path.{_≡_, ap, _∙_}
-use Rattle.tokens.specs.Place.{Stands}
-use Rattle.tokens.proofs.Counting.{start-stands}
+use Rattle.texts.specs.Place.{Stands}
+use Rattle.texts.proofs.Counting.{start-stands}
 use Rattle.rule_places.specs.Sentences.{sentence}
 use Rattle.rule_places.proofs.Dots.{Reached, reached-start, reached-on, reached-sentence}
 use borrow.Author.Needs.{needs}

@@ -3,7 +3,7 @@ use Prim.Native.Nat.{ℕ, _-_}
 use native.Mathlib.Omega.{arith}
 use mathlib.Core.Bool.{false}
 use mathlib.Core.Path.{sym as inv, ap, _∙_}
-use Rattle.tokens.specs.Place.{with-len}
+use Rattle.texts.specs.Place.{with-len}
 use Rattle.rule_places.proofs.Dots.{no-token, start-before, first-to-dot}
 use borrow.Author.Needs.{needs}
 use Rattle.rule_places.proofs.to_dot.Statement.{statement}

@@ -7,9 +7,9 @@ use mathlib.Core.Bool.{false}
 use lib.ListN.{drop, length-drop}
 use borrow.Author.Tests.{eq-eqb, ne-eqb}
 use borrow.Author.Needs.{needs}
-use Rattle.tokens.specs.declared.kind.Kind.the-variants.{String}
+use Rattle.lexis.specs.declared.kind.Kind.the-variants.{String}
 use Rattle.tokens.specs.Token.{standing, stringAt}
-use Rattle.tokens.proofs.Strings.{closing-inside}
+use Rattle.lexis.proofs.Strings.{closing-inside}
 use Rattle.tokens.proofs.string_at.Statement.{statement}
 use Rattle.tokens.proofs.string_at.Tie as tie
 

@@ -1,5 +1,5 @@
 -- `clash::fact_part` meets its contract: the line's start, counted on as far as the fact. Assumes nothing.
-use Rattle.tokens.specs.Place.{with-len, along}
+use Rattle.texts.specs.Place.{with-len, along}
 use borrow.Author.Needs.{needs}
 use Rattle.fields.proofs.clash.fact_part.Statement.{statement}
 use Rattle.fields.proofs.clash.fact_part.Tie as tie

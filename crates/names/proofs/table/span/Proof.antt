@@ -1,6 +1,6 @@
 -- `table::span` meets its contract. Assumes nothing.
 use mathlib.Core.Path.{ap₂, _∙_}
-use Rattle.tokens.specs.Places.{span-from}
+use Rattle.texts.specs.Places.{span-from}
 use borrow.Author.Needs.{needs}
 use Rattle.names.proofs.table.span.Statement.{statement}
 use Rattle.names.proofs.table.span.Tie as tie

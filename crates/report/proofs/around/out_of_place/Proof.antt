@@ -5,8 +5,8 @@ use mathlib.Core.Path.{sym, ap, _∙_}
 use lib.ListN.{length}
 use borrow.Author.Tests.{ltb-true, ltb-false, not-true, not-false}
 use borrow.Author.Needs.{needs}
-use Rattle.tokens.specs.declared.place.Place.{Place}
-use Rattle.tokens.specs.Place.{Stands}
+use Rattle.texts.specs.declared.place.Place.{Place}
+use Rattle.texts.specs.Place.{Stands}
 use Rattle.report.specs.declared.around.Found.{Found}
 use Rattle.report.specs.Around.{OutOfPlace}
 use Rattle.report.proofs.LineList.{less-left, its-end}

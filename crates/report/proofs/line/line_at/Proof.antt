@@ -4,8 +4,8 @@ use Prim.Native.Nat.{ℕ, _-_}
 use mathlib.Core.Path.{sym, ap, _∙_}
 use borrow.Author.Tests.{ltb-true, ltb-false, not-true, not-false}
 use borrow.Author.Needs.{needs}
-use Rattle.tokens.specs.Tokens.{bytes-in}
-use Rattle.tokens.specs.Places.{span-from}
+use Rattle.texts.specs.Parts.{bytes-in}
+use Rattle.texts.specs.Places.{span-from}
 use Rattle.report.proofs.LineList.{end-inside, line-none}
 use Rattle.report.proofs.line.line_at.Statement.{statement}
 use Rattle.report.proofs.line.line_at.Tie as tie

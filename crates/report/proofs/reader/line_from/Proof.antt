@@ -36,7 +36,7 @@ use denote.Triple.Table.{entered, cited}
 use denote.Triple.Walked.{says, Stays, stay-none, stay-none-slice, walkOf, goes-none, goes-none-slice, Walks, ends-at, walked, walk-meets}
 use denote.Exit.{yes}
 use denote.Triple.Clauses.{ensured, lasts}
-use Rattle.tokens.specs.Tokens.{bytes-in}
+use Rattle.texts.specs.Parts.{bytes-in}
 use Rattle.report.specs.declared.reader.Lines.{Lines}
 use Rattle.report.specs.Lines.{lineAt}
 use Rattle.report.specs.Reader.{readerAt, next as next-line}

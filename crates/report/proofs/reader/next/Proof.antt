@@ -8,7 +8,7 @@ use denote.Ref.{now}
 use denote.Slice.{sliceTy, shr-slice-lawful}
 use denote.Triple.Spec.{tripleOf}
 use denote.Triple.Table.{entered, cited}
-use Rattle.tokens.specs.Tokens.{bytes-in}
+use Rattle.texts.specs.Parts.{bytes-in}
 use Rattle.report.specs.Reader.{next as next-line}
 use Rattle.report.proofs.PassedOn.{Shape, Callee, passed-on}
 use Rattle.report.proofs.line.line_at.Symbol as line-at-def

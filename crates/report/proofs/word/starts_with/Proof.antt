@@ -1,7 +1,7 @@
 -- `word::starts_with` meets its contract. Assumes nothing.
 use mathlib.Core.Path.{ap, _∙_}
 use Rattle.meaning.specs.Values.{same-bytes}
-use Rattle.tokens.specs.Tokens.{bytes-in}
+use Rattle.texts.specs.Parts.{bytes-in}
 use Rattle.report.proofs.Starting.{starts-same}
 use borrow.Author.Needs.{needs}
 use Rattle.report.proofs.word.starts_with.Statement.{statement}

@@ -1,7 +1,7 @@
 -- `separator::separator_at` meets its contract. Assumes nothing.
 use native.Mathlib.Omega.{arith}
 use mathlib.Core.Path.{refl, ap, _∙_}
-use Rattle.tokens.specs.declared.place.Place.{Place}
+use Rattle.texts.specs.declared.place.Place.{Place}
 use Rattle.syntax.specs.Arguments.{goneSeparator}
 use Rattle.syntax.proofs.Tokens.{past-countable}
 use Rattle.syntax.proofs.Lists.{is-comma, is-last, is-neither}

@@ -5,8 +5,8 @@ use native.Mathlib.Omega.{arith}
 use mathlib.Core.Path.{_≡_, refl, ap}
 use mathlib.Core.List.{map}
 use lib.ListN.{drop}
-use Rattle.tokens.specs.Tokens.{part}
-use Rattle.tokens.specs.Places.{places-in}
+use Rattle.texts.specs.Parts.{part}
+use Rattle.texts.specs.Places.{places-in}
 use Rattle.syntax.specs.Variables.{first-among}
 use Rattle.syntax.proofs.Variables.{among-here, among-on, among-end}
 use borrow.Author.Needs.{needs}

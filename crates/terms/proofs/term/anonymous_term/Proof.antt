@@ -1,6 +1,6 @@
 -- `term::anonymous_term` meets its contract. Assumes nothing.
 use Rattle.terms.proofs.TermLaws.{anonymous-over, anonymous-many, anonymous-new}
-use Rattle.tokens.proofs.PlaceTables.{storable-countable}
+use Rattle.texts.proofs.PlaceTables.{storable-countable}
 use borrow.Author.Needs.{needs}
 use Rattle.terms.proofs.term.anonymous_term.Statement.{statement}
 use Rattle.terms.proofs.term.anonymous_term.Tie as tie

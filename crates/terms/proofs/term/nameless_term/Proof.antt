@@ -1,7 +1,7 @@
 -- `term::nameless_term` meets its contract. Assumes nothing.
 use Rattle.terms.proofs.TermLaws.{in-program, minus-goes, minus-over, ground-wrong, free-wrong}
 use native.Mathlib.Omega.{arith}
-use Rattle.tokens.proofs.PlaceTables.{storable-countable}
+use Rattle.texts.proofs.PlaceTables.{storable-countable}
 use Rattle.syntax.proofs.Tokens.{past-here}
 use borrow.Author.Needs.{needs}
 use Rattle.terms.proofs.term.nameless_term.Statement.{statement}

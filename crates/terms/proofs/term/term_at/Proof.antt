@@ -1,6 +1,6 @@
 -- `term::term_at` meets its contract. Assumes nothing.
 use native.Mathlib.Omega.{arith}
-use Rattle.tokens.proofs.PlaceTables.{storable-countable}
+use Rattle.texts.proofs.PlaceTables.{storable-countable}
 use Rattle.syntax.proofs.Tokens.{kind-at-most}
 use Rattle.terms.proofs.TermLaws.{puttable, number-goes, nameless, bar-wrong}
 use borrow.Author.Needs.{needs}

@@ -1,6 +1,6 @@
 -- `term::variable_term` meets its contract. Assumes nothing.
 use Rattle.terms.proofs.TermLaws.{variable-stops, variable-many, variable-known, variable-new}
-use Rattle.tokens.proofs.PlaceTables.{storable-countable}
+use Rattle.texts.proofs.PlaceTables.{storable-countable}
 use borrow.Author.Needs.{needs}
 use Rattle.terms.proofs.term.variable_term.Statement.{statement}
 use Rattle.terms.proofs.term.variable_term.Tie as tie

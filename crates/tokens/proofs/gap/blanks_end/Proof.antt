@@ -7,10 +7,11 @@ use mathlib.Core.Bool.{true}
 use lib.ListN.{length, drop}
 use borrow.Author.Tests.{not-true, not-false}
 use borrow.Author.Needs.{needs}
-use Rattle.tokens.specs.Run.{isBlank, prefixLen}
-use Rattle.tokens.specs.Place.{Stands}
-use Rattle.tokens.proofs.Prefix.{prefix-end, prefix-stop, prefix-on}
-use Rattle.tokens.proofs.Counting.{countable, behind-stands, behind-start, behind-less}
+use Rattle.lexis.specs.Run.{isBlank}
+use Rattle.texts.specs.Prefix.{prefixLen}
+use Rattle.texts.specs.Place.{Stands}
+use Rattle.texts.proofs.Prefix.{prefix-end, prefix-stop, prefix-on}
+use Rattle.texts.proofs.Counting.{countable, behind-stands, behind-start, behind-less}
 use Rattle.tokens.proofs.gap.blanks_end.Statement.{statement}
 use Rattle.tokens.proofs.gap.blanks_end.Tie as tie
 

@@ -7,9 +7,9 @@ use mathlib.Core.Bool.{true, false}
 use lib.ListN.{length, drop}
 use borrow.Author.Tests.{not-true, not-false}
 use borrow.Author.Needs.{needs}
-use Rattle.tokens.specs.declared.place.Place.{Place}
+use Rattle.texts.specs.declared.place.Place.{Place}
 use Rattle.tokens.specs.Gap.{gap}
-use Rattle.tokens.specs.Place.{Stands}
+use Rattle.texts.specs.Place.{Stands}
 use Rattle.tokens.proofs.Gaps.{gap-stop, gap-comment, comment-inside, line-stands, blanks-stand, run-countable}
 use Rattle.tokens.proofs.gap.gap_end.Statement.{statement}
 use Rattle.tokens.proofs.gap.gap_end.Tie as tie

@@ -6,7 +6,7 @@ use mathlib.Core.Path.{_≡_, sym, _∙_}
 use borrow.Author.Tests.{eq-eqb, ne-eqb}
 use borrow.Author.Needs.{needs}
 use Rattle.tokens.proofs.Gaps.{starts-comment-at}
-use Rattle.tokens.proofs.Prefix.{byte-inside}
+use Rattle.texts.proofs.Prefix.{byte-inside}
 use Rattle.tokens.proofs.gap.starts_comment.Statement.{statement}
 use Rattle.tokens.proofs.gap.starts_comment.Tie as tie
 
