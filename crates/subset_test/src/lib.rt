@@ -6,11 +6,13 @@ use bodies::Progress;
 use derived_set::Derived;
 use lookahead::Goal;
 use subsets::first_left;
+use subsets::seen::none_seen;
 ghost use mathlib.Core.Path.{_≡_};
 ghost use Prim.Native.Nat.{_*_, _^_, _≤_};
 ghost use lib.ListN.{length};
 ghost use Rattle.matchings.specs.Tables.{Tables};
 ghost use Rattle.subsets.specs.Table.{most-facts, most-words};
+ghost use Rattle.subsets.specs.Seen.{Seen};
 ghost use Rattle.subset_test.specs.Smaller.{Refutes, own-number, Blank, Unrefuted, KeptFacts, Tested};
 
 pub mod heads;
@@ -29,8 +31,15 @@ pub struct Smaller {
 }
 
 // Rules out each subset that a matching of some rule refutes.
-fn refute_all(store: &[u64], ranks: &[u32], count: usize, total: usize, table: &mut [u64])
-    requires { ⌜ Tables (now store) count total × (count ≤ most-facts) × (length (now table) ≤ most-words) ⌝ }
+fn refute_all(
+    store: &[u64],
+    ranks: &[u32],
+    count: usize,
+    total: usize,
+    table: &mut [u64],
+    seen: &mut [u64],
+)
+    requires { ⌜ Tables (now store) count total × (count ≤ most-facts) × (length (now table) ≤ most-words) × Seen (now seen) (now table) ⌝ }
     ensures { λ _. ⌜ Refutes (now (ranks .entry)) (now (store .entry)) count total total (now (table .entry)) (now (table .exit)) ⌝ }
 {
     let mut values = [0u64; 16];
@@ -48,7 +57,7 @@ fn refute_all(store: &[u64], ranks: &[u32], count: usize, total: usize, table: &
             progress,
             body: 0,
         };
-        refute_from(store, ranks, &mut values, table, start);
+        refute_from(store, ranks, &mut values, table, seen, start);
         r += 1;
     }
 }
@@ -93,18 +102,19 @@ fn own_number(count: usize) -> usize
     subsets_of(count) - 1
 }
 
-// The first number that no matching refutes, or the candidate's own. The table is lent without a one.
+// The first number that no matching refutes, or the candidate's own. The table is lent without a one, and the cache as it is at first.
 fn first_unrefuted(
     store: &[u64],
     ranks: &[u32],
     count: usize,
     total: usize,
     table: &mut [u64],
+    seen: &mut [u64],
 ) -> usize
-    requires { ⌜ Tables (now store) count total × (count ≤ most-facts) × Blank count (now table) ⌝ }
+    requires { ⌜ Tables (now store) count total × (count ≤ most-facts) × Blank count (now table) × Seen (now seen) (now table) ⌝ }
     ensures { λ r. ⌜ Unrefuted (now (ranks .entry)) (now (store .entry)) count total r ⌝ }
 {
-    refute_all(store, ranks, count, total, table);
+    refute_all(store, ranks, count, total, table, seen);
     first_left(table, own_number(count))
 }
 
@@ -114,8 +124,9 @@ pub fn least_smaller(store: &[u64], ranks: &[u32], count: usize, total: usize) -
     ensures { λ r. ⌜ Tested (now (ranks .entry)) (now (store .entry)) count total r ⌝ }
 {
     let mut table = [0u64; WORDS];
+    let mut seen = none_seen();
     let words = words_for(count);
-    let number = first_unrefuted(store, ranks, count, total, &mut table[0..words]);
+    let number = first_unrefuted(store, ranks, count, total, &mut table[0..words], &mut seen);
     let found = number < own_number(count);
     let set = kept_facts(number, count);
     Smaller { found, set }

@@ -6,4 +6,5 @@ pub mod Masks
 pub mod Patterns
 pub mod Choosing
 pub mod Marking
+pub mod SeenPairs
 pub mod Left

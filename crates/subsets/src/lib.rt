@@ -6,6 +6,8 @@ ghost use lib.Bits.{bitAnd};
 ghost use Rattle.subsets.specs.Table.{most-facts, most-words, AllOut, RulesOut, FirstLeft};
 ghost use Rattle.subsets.specs.Words.{bit-facts, word-facts, Column, Leaves, WordsMarked};
 
+pub mod seen;
+
 // The bits of a word, and the facts that choose one of them.
 const BITS: usize = 64;
 
@@ -61,7 +63,7 @@ fn mark_words(table: &mut [u64], pattern: u64, body: usize, heads: usize)
 }
 
 // Rules out each subset that has all of the body and none of the heads.
-pub fn rule_out(table: &mut [u64], body: u64, heads: u64)
+fn rule_out(table: &mut [u64], body: u64, heads: u64)
     requires { ⌜ (length (now table) ≤ most-words) × (body < 2 ^ most-facts) × (heads < 2 ^ most-facts) ⌝ }
     ensures { λ _. ⌜ RulesOut body heads (now (table .entry)) (now (table .exit)) ⌝ }
 {
