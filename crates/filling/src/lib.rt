@@ -12,7 +12,6 @@ use store::STORE;
 use store::links;
 use tables::row::put_row;
 ghost use mathlib.Core.Path.{_≡_};
-ghost use Prim.Native.Nat.{ℕ};
 ghost use lib.ListN.{length};
 ghost use Rattle.tables.specs.Stored.{Kept};
 ghost use Rattle.chains.specs.Links.{Linked};
