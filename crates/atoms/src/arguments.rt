@@ -12,7 +12,7 @@ use texts::place::{Place, past};
 use texts::sizes::MOST_ARGUMENTS;
 
 // The numbers of the first `count` terms, and how many variables have been met behind them.
-#[derive(Drop)]
+#[derive(Clone, Copy)]
 pub struct ArgumentsRead {
     pub progress: Progress,
     pub terms: [u64; MOST_ARGUMENTS],

@@ -15,7 +15,7 @@ use texts::place::{Place, past};
 use texts::sizes::MOST_ARGUMENTS;
 
 // An atom's numbers, and how many variables have been met behind it.
-#[derive(Drop)]
+#[derive(Clone, Copy)]
 pub struct AtomRead {
     pub progress: Progress,
     pub codes: AtomCodes,
@@ -23,7 +23,7 @@ pub struct AtomRead {
 }
 
 // The name of an atom, by its number, and whether a minus stands before it.
-#[derive(Drop)]
+#[derive(Clone, Copy)]
 pub struct SignedName {
     pub negative: bool,
     pub number: usize,

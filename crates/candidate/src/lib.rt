@@ -1,4 +1,6 @@
 // A candidate, behind a program and an output that are read: its facts go into the store; 6 and 7; 9; 12; then the last stages.
+#![tactic(auto)]
+
 ghost use Rattle.std.specs.Prelude.{◌≡◌, ◌<◌, ◌≤◌, length, get_or};
 ghost use Rattle.texts.specs.Place.{Countable};
 ghost use Rattle.fields.specs.Parts.{fact_place};
@@ -23,7 +25,7 @@ const SHORT: u8 = 9;
 const UNTESTED: u8 = 12;
 
 // A fact's refusal, if it has one, and its place.
-#[derive(Drop)]
+#[derive(Clone, Copy)]
 pub struct Fault {
     pub number: u8,
     pub place: Place,

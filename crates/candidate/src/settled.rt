@@ -11,14 +11,14 @@ use ranks::rank_names;
 use verdict::verdict;
 
 // How many facts and how many rules there are.
-#[derive(Drop)]
+#[derive(Clone, Copy)]
 pub struct Counts {
     pub facts: usize,
     pub rules: usize,
 }
 
 // .. and whether some rule has several heads: then the candidate is tested against every proper subset.
-#[derive(Drop)]
+#[derive(Clone, Copy)]
 pub struct Task {
     pub counts: Counts,
     pub several: bool,

@@ -1,4 +1,6 @@
 // The check: a program and a solver's output against the published meaning of an answer set, refusals in their order.
+#![tactic(auto)]
+
 ghost use Rattle.names.specs.Numbering.{Empty};
 ghost use Rattle.promise.specs.Answered.{Check};
 ghost use Rattle.fields.specs.Checked.{Answers};

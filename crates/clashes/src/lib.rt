@@ -1,4 +1,6 @@
 // Facts that can't stand beside an earlier one, found by the chains of rows: one that repeats it, and one that differs from it in sign alone.
+#![tactic(auto)]
+
 ghost use Rattle.std.specs.Prelude.{◌≡◌, true, false, List, ℕ, ◌<◌};
 ghost use Rattle.meaning.specs.Rules.{Bytes};
 ghost use Rattle.tables.specs.WellFormed.{FactTable};
@@ -18,7 +20,7 @@ pub const NONE: u8 = 0;
 const SIGNED: u64 = 18;
 
 // The first fact that has a refusal, and its number.
-#[derive(Drop)]
+#[derive(Clone, Copy)]
 pub struct Clashing {
     pub number: u8,
     pub fact: usize,

@@ -15,7 +15,7 @@ use texts::place::Place;
 use texts::sizes::MOST_LITERALS;
 
 // How many literals there are, and how many variables have been met behind them.
-#[derive(Drop)]
+#[derive(Clone, Copy)]
 pub struct BodyRead {
     pub progress: Progress,
     pub count: usize,

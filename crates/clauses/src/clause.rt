@@ -14,7 +14,7 @@ use texts::place::{Place, TEXT_START, past};
 use texts::sizes::MOST_HEADS;
 
 // A rule: how many heads it has, how many literals in its body, and how many variables. Where `ended`, there is none, because the text ends.
-#[derive(Drop)]
+#[derive(Clone, Copy)]
 pub struct RuleRead {
     pub progress: Progress,
     pub ended: bool,

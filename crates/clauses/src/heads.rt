@@ -13,14 +13,14 @@ use texts::place::past;
 use texts::sizes::MOST_HEADS;
 
 // The first token of the rule with a number.
-#[derive(Drop)]
+#[derive(Clone, Copy)]
 pub struct FirstToken {
     pub number: usize,
     pub token: TokenRead,
 }
 
 // How many heads there are, how many variables have been met behind them, and the token there, which is no `|`.
-#[derive(Drop)]
+#[derive(Clone, Copy)]
 pub struct HeadsRead {
     pub progress: Progress,
     pub token: TokenRead,

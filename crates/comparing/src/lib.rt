@@ -1,4 +1,6 @@
 // The six comparisons on codes, with no text: two names or two strings come in the order of their ranks, and all other codes in their own.
+#![tactic(auto)]
+
 ghost use Rattle.std.specs.Prelude.{◌≡◌, true, List, ◌≤◌, ◌<◌, length, get_or};
 ghost use Rattle.meaning.specs.Rules.{Bytes};
 ghost use Rattle.codes.specs.Codes.{no_value, first_name};

@@ -12,7 +12,7 @@ use texts::place::{Place, TEXT_START, past};
 use texts::sizes::MOST_ARGUMENTS;
 
 // A fact's numbers, and where its first token starts. Where `ended`, there is none, because the line ends.
-#[derive(Drop)]
+#[derive(Clone, Copy)]
 pub struct FactRead {
     pub progress: Progress,
     pub ended: bool,

@@ -14,7 +14,7 @@ use texts::places::PLACE;
 use texts::sizes::{MOST_FACTS, MOST_VARIABLES};
 
 // How many facts there are; or the refusal and its place on the line.
-#[derive(Drop)]
+#[derive(Clone, Copy)]
 pub struct FactsRead {
     pub code: u8,
     pub place: Place,

@@ -7,21 +7,21 @@ use texts::place::{Place, TEXT_START};
 use texts::sizes::MOST_LITERALS;
 
 // The two lent texts.
-#[derive(Drop)]
+#[derive(Clone, Copy)]
 pub enum Text {
     Program,
     Output,
 }
 
 // A part of one of them.
-#[derive(Drop)]
+#[derive(Clone, Copy)]
 pub struct Part {
     pub text: Text,
     pub place: Place,
 }
 
 // A refusal, a verdict, or what the solver only claimed.
-#[derive(Drop)]
+#[derive(Clone, Copy)]
 pub enum Kind {
     Refused,
     Accepted,
@@ -31,7 +31,7 @@ pub enum Kind {
     ClaimedUnknown,
 }
 
-#[derive(Drop)]
+#[derive(Clone, Copy)]
 pub struct Answer {
     pub kind: Kind,
     // REFUSED: its number, and the part that holds the fault.

@@ -1,4 +1,6 @@
 // The store filled: the rules of a program, the facts of a candidate, and the chains of the facts, each in its part.
+#![tactic(auto)]
+
 ghost use Rattle.std.specs.Prelude.{◌≡◌, length};
 ghost use Rattle.tables.specs.Stored.{Kept};
 ghost use Rattle.chains.specs.Links.{Linked};

@@ -1,4 +1,6 @@
 // A frame: the words and numbers of its first line, and the bytes behind it.
+#![tactic(auto)]
+
 ghost use Rattle.std.specs.Prelude.{◌≡◌, ◌≤◌};
 
 use libc::STDIN_FILENO;
@@ -15,7 +17,7 @@ pub const MOST_BYTES: u64 = 65600;
 pub const MOST_PLACES: u64 = 2048;
 
 // A byte of the input, or its end.
-#[derive(Drop)]
+#[derive(Clone, Copy)]
 struct Next {
     found: bool,
     byte: u8,
@@ -23,14 +25,14 @@ struct Next {
 
 // How long a frame's first line is, without its newline; or the input has ended before it. A line that is too long, or that the
 // input ends in, is empty, and so of no known form.
-#[derive(Drop)]
+#[derive(Clone, Copy)]
 pub struct Line {
     pub ended: bool,
     pub len: usize,
 }
 
 // A number of a line, and where it ends; `good`: it is there, is small enough, and so are those before it.
-#[derive(Drop)]
+#[derive(Clone, Copy)]
 pub struct Number {
     pub good: bool,
     pub value: u64,

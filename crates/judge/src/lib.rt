@@ -1,4 +1,6 @@
 // The judgement over the store: refusal 8, or the verdict.
+#![tactic(auto)]
+
 ghost use Rattle.std.specs.Prelude.{◌≡◌, true, false, List, ℕ, ◌<◌, ◌≤◌, length};
 ghost use Rattle.meaning.specs.Rules.{disjunctive};
 ghost use Rattle.store.specs.Store.{store_size, rule_room};
@@ -15,7 +17,7 @@ use subset_test::least_smaller;
 
 pub mod several;
 
-#[derive(Drop)]
+#[derive(Clone, Copy)]
 pub enum Kind {
     OutOfRange,
     Unsatisfied,
@@ -26,7 +28,7 @@ pub enum Kind {
 }
 
 // The rule and the positions, as many as `length` says, are from 0.
-#[derive(Drop)]
+#[derive(Clone, Copy)]
 pub struct Judgement {
     pub kind: Kind,
     pub rule: usize,

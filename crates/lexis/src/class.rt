@@ -3,7 +3,7 @@ ghost use Rattle.std.specs.Prelude.{◌≡◌};
 ghost use Rattle.lexis.specs.Class.{class_of, is_word_class, is_digit};
 
 // What a byte is by its value.
-#[derive(Drop)]
+#[derive(Clone, Copy)]
 pub enum Class {
     Lower,
     Upper,

@@ -4,7 +4,7 @@ ghost use Rattle.lexis.specs.Kind.{kind_number};
 ghost use Rattle.lexis.specs.Spelling.{single_kind, pair_kind, name_kind};
 
 // What a token is.
-#[derive(Drop)]
+#[derive(Clone, Copy)]
 pub enum Kind {
     Name,
     // the keyword `not`

@@ -6,7 +6,7 @@ ghost use Rattle.texts.specs.Prefix.{prefix_len};
 use crate::class::{class_of, is_digit, is_word};
 
 // The sorts of bytes that make a run.
-#[derive(Drop)]
+#[derive(Clone, Copy)]
 pub enum Run {
     // the blanks that may stand on a line
     LineBlanks,

@@ -13,7 +13,7 @@ use terms::term::{TermRead, term_at};
 use texts::place::{Place, past};
 
 // A literal's row, and how many variables have been met behind it.
-#[derive(Drop)]
+#[derive(Clone, Copy)]
 pub struct LiteralRead {
     pub progress: Progress,
     pub row: [u64; LITERAL],
@@ -21,7 +21,7 @@ pub struct LiteralRead {
 }
 
 // The two sides of a comparison, by their numbers, and its own.
-#[derive(Drop)]
+#[derive(Clone, Copy)]
 struct Sides {
     left: u64,
     comparison: u64,

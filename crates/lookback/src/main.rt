@@ -1,6 +1,8 @@
 // The program that a person runs: `lookback check PROGRAM OUTPUT CODE` prints the answer of the check, and `lookback plain PROGRAM`
 // the plain form of a program; `-` as OUTPUT is standard input. Of a refusal standard error tells the place and what is wrong there. What
 // goes wrong with an argument or a file is said there too, and then nothing is printed.
+#![tactic(auto)]
+
 use files::{CODE, OUTPUT, PROGRAM, WORD};
 use texts::parts::same_bytes;
 

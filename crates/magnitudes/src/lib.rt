@@ -1,5 +1,7 @@
 // How large the numbers of a rule's matchings can get: from the largest number of the facts, a bound for each variable and each operation.
 // Where no bound is above the greatest number, no matching of the rule overflows, and none need be walked for that.
+#![tactic(auto)]
+
 ghost use Rattle.std.specs.Prelude.{◌≡◌, true, false, List, map, ℕ, ◌<◌, ◌≤◌, ◌-◌, length};
 ghost use Rattle.meaning.specs.Sets.{In, any};
 ghost use Rattle.meaning.specs.Rules.{Bytes};

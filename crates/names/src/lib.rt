@@ -1,5 +1,7 @@
 // Names to numbers: the number of a name is its place in the list of the distinct names, in the order in which they are first met.
 // The bytes stay where they are, in the program or in the solver's output.
+#![tactic(auto)]
+
 ghost use Rattle.std.specs.Prelude.{◌≡◌, length};
 ghost use Rattle.texts.specs.Places.{span_from};
 ghost use Rattle.names.specs.Texts.{bytes_at};
@@ -27,7 +29,7 @@ pub const SMALL_TEXT: usize = 4096;
 pub const SMALL_TABLE: usize = table::FIRST_ROW + 2 * SMALL_TEXT * table::ROW;
 
 // Where a name is found.
-#[derive(Drop)]
+#[derive(Clone, Copy)]
 pub enum Found {
     At(usize),
     Nothing,

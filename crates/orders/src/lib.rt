@@ -1,4 +1,6 @@
 // Whether a rule asks which of two values comes first: then names and strings need ranks.
+#![tactic(auto)]
+
 ghost use Rattle.std.specs.Prelude.{◌≡◌, false, ◌<◌, ◌≤◌, ◌+◌, length};
 ghost use Rattle.store.specs.Store.{store_size, literal_room};
 ghost use Rattle.orders.specs.Orders.{Plain, PlainRule, RulesInside};

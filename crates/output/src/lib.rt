@@ -1,4 +1,6 @@
 // The solver's output as a whole: its report, the facts line behind ANSWER, and the lines behind the report.
+#![tactic(auto)]
+
 ghost use Rattle.std.specs.Prelude.{◌≡◌, ◌+◌};
 ghost use Rattle.texts.specs.Place.{Stands, Countable};
 ghost use Rattle.output.specs.Answers.{refused, reported, counted_on, line_fields, Closes};
@@ -19,7 +21,7 @@ const OUT_OF_PLACE: u8 = 2;
 
 // What an output says. A refusal has its code and its place; else the code is 0, the place is empty, and the other fields hold
 // the report's word, and with ANSWER the line of the facts and their number.
-#[derive(Drop)]
+#[derive(Clone, Copy)]
 pub struct OutputRead {
     pub code: u8,
     pub place: Place,

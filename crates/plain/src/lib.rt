@@ -1,4 +1,6 @@
 // A program's plain form, written into a lent buffer.
+#![tactic(auto)]
+
 ghost use Rattle.std.specs.Prelude.{min, length};
 ghost use Rattle.names.specs.Table.{most_names};
 ghost use Rattle.names.specs.Numbering.{Empty};
@@ -12,7 +14,7 @@ use program::space::{literal_table, rule_table};
 use texts::place::{Place, TEXT_START};
 
 // The writer's answer: the number of a refusal and its part of the program; or 0, and the length of the plain form.
-#[derive(Drop)]
+#[derive(Clone, Copy)]
 pub struct Written {
     pub code: u8,
     pub place: Place,

@@ -1,4 +1,6 @@
 // A text's tokens to the bytes of its plain form, written into a lent buffer as they are read.
+#![tactic(auto)]
+
 ghost use Rattle.std.specs.Prelude.{◌≡◌, cond, ◌++◌};
 ghost use Rattle.plaintokens.specs.Put.{Room, Put};
 ghost use Rattle.plaintokens.specs.Promise.{Readable, PutsPlain};

@@ -1,4 +1,6 @@
 // A program's text, read once: its rules in the tables and their number, or the refusal and its place.
+#![tactic(auto)]
+
 ghost use Rattle.std.specs.Prelude.{◌≡◌, cond, ◌≤◌, length};
 ghost use Rattle.texts.specs.Sizes.{most_text};
 ghost use Rattle.program.specs.Rules.{Fillable};
@@ -20,7 +22,7 @@ const OVER_SIZE: u8 = 1;
 const NOT_BOUND: u8 = 5;
 
 // The number of a refusal and its place; or 0, and how many rules the program has.
-#[derive(Drop)]
+#[derive(Clone, Copy)]
 pub struct ProgramRead {
     pub code: u8,
     pub place: Place,

@@ -10,7 +10,7 @@ use terms::cursor::Cursor;
 use texts::place::Place;
 
 // Where a rule starts in the program, its number, and whether it is one too many.
-#[derive(Drop)]
+#[derive(Clone, Copy)]
 pub struct RuleStart {
     pub at: Place,
     pub number: usize,
@@ -18,7 +18,7 @@ pub struct RuleStart {
 }
 
 // How far reading has come. Where `ended`, there is no rule, because the text ends.
-#[derive(Drop)]
+#[derive(Clone, Copy)]
 pub struct RulePut {
     pub progress: Progress,
     pub ended: bool,

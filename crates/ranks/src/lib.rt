@@ -1,4 +1,6 @@
 // Ranks of the names of a table, strings among them: their numbers are sorted by merging, and a name's rank is the place of its number.
+#![tactic(auto)]
+
 ghost use Rattle.std.specs.Prelude.{◌≡◌, not, ℕ, ◌+◌, ◌≤◌, ◌<◌, length, get_or, take, drop};
 ghost use Rattle.meaning.specs.Values.{bytes_before};
 ghost use Rattle.names.specs.Table.{Table, names_of, bytes_of, count, most_names};

@@ -8,7 +8,7 @@ use crate::reader::line_from;
 use texts::place::{Place, with_len};
 
 // A line; or none, and the text's end.
-#[derive(Drop)]
+#[derive(Clone, Copy)]
 pub enum Found {
     End(Place),
     Line(Place),

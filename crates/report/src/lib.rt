@@ -1,4 +1,6 @@
 // The solver's output by its lines: what may stand around the report, the report, the line of the facts, and the solver's code.
+#![tactic(auto)]
+
 ghost use Rattle.std.specs.Prelude.{◌≡◌};
 ghost use Rattle.texts.specs.Place.{Stands};
 ghost use Rattle.report.specs.Lines.{lines_from};
@@ -22,7 +24,7 @@ const OUT_OF_PLACE: u8 = 2;
 
 // What the lines of an output say. A refusal has its code and its place; else the code is 0, the place is empty, and the other
 // fields hold the report's word, with ANSWER the line of the facts, and where the lines behind the report begin.
-#[derive(Drop)]
+#[derive(Clone, Copy)]
 pub struct Report {
     pub code: u8,
     pub place: Place,

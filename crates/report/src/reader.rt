@@ -7,7 +7,7 @@ ghost use Rattle.report.specs.Reader.{reader_at, has_next, next, behind};
 
 use crate::line::{behind_line, has_line, line_at};
 
-#[derive(Drop)]
+#[derive(Clone, Copy)]
 pub struct Lines<'a> {
     pub text: &'a [u8],
     pub at: usize,

@@ -5,7 +5,7 @@ ghost use Rattle.report.specs.Word.{starts_with, agrees};
 use texts::parts::{bytes_in, same_bytes};
 use texts::place::span_from;
 
-#[derive(Drop)]
+#[derive(Clone, Copy)]
 pub enum Word {
     Answer,
     Inconsistent,

@@ -9,7 +9,7 @@ use tables::{BUILTIN, LITERAL};
 use texts::sizes::MOST_ARGUMENTS;
 
 // The number of an atom's predicate, and its arguments' numbers, as many as the arity says.
-#[derive(Drop)]
+#[derive(Clone, Copy)]
 pub struct AtomCodes {
     pub predicate: u64,
     pub terms: [u64; MOST_ARGUMENTS],

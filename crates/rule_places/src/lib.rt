@@ -1,4 +1,6 @@
 // Where the rules of a program stand: each from its first token to its dot.
+#![tactic(auto)]
+
 ghost use Rattle.std.specs.Prelude.{◌≡◌, false};
 ghost use Rattle.texts.specs.Place.{Stands};
 ghost use Rattle.syntax.specs.Text.{placed_from, end_of};

@@ -12,7 +12,7 @@ use tables::{ARITIES, LITERAL, POSITIVE, PREDICATE, SORT, TERMS};
 use texts::sizes::MOST_VARIABLES;
 
 // Of each variable of a rule, by its number, whether it is bound.
-#[derive(Drop)]
+#[derive(Clone, Copy)]
 pub struct Bound {
     pub bits: [bool; MOST_VARIABLES],
 }

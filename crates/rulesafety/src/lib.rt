@@ -1,4 +1,6 @@
 // Safety over rows: the variables that a body's rows bind, a rule's own row, and the first variable that is not bound.
+#![tactic(auto)]
+
 pub mod bound;
 mod equation;
 mod listed;

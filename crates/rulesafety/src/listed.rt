@@ -11,7 +11,7 @@ use tables::{LITERAL, POSITIVE, SORT};
 use texts::sizes::MOST_LITERALS;
 
 // Rows of literals: the first `count` of them.
-#[derive(Drop)]
+#[derive(Clone, Copy)]
 pub struct Rows {
     pub rows: [u64; MOST_LITERALS],
     pub count: usize,

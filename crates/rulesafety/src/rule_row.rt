@@ -16,7 +16,7 @@ use texts::sizes::MOST_HEADS;
 
 // What a rule's own row says of it: how many heads it has, how many literals its body, whether one has an operation, the rows of the equations
 // that bind and of the positive literals.
-#[derive(Drop)]
+#[derive(Clone, Copy)]
 struct Numbers {
     heads: usize,
     literals: usize,

@@ -10,7 +10,7 @@ use crate::listed::{Rows, no_rows, with_listed};
 use tables::{LITERAL, TERMS};
 
 // What is bound, and the rows of the equations that bind, in the order in which they do.
-#[derive(Drop)]
+#[derive(Clone, Copy)]
 pub struct Scan {
     pub bound: Bound,
     pub equations: Rows,

@@ -8,7 +8,7 @@ use texts::place::{Place, TEXT_START};
 use texts::places::place_in;
 
 // The first variable that is not bound, at its first occurrence; or none was found, and the place is empty.
-#[derive(Drop)]
+#[derive(Clone, Copy)]
 pub struct Unbound {
     pub found: bool,
     pub place: Place,

@@ -1,5 +1,7 @@
 // The test against every proper subset: of those that satisfy the reduct, the one whose number is least. A subset's number has a bit for each
 // fact that it keeps, the first fact's being the lowest.
+#![tactic(auto)]
+
 ghost use Rattle.std.specs.Prelude.{◌≡◌, ◌*◌, ◌^◌, ◌≤◌, length};
 ghost use Rattle.matchings.specs.Tables.{Tables};
 ghost use Rattle.subsets.specs.Table.{most_facts, most_words};
@@ -23,7 +25,7 @@ const WORDS: usize = 16_384;
 const BITS: usize = 64;
 
 // A smaller set, if there is one.
-#[derive(Drop)]
+#[derive(Clone, Copy)]
 pub struct Smaller {
     pub found: bool,
     pub set: Derived,

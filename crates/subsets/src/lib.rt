@@ -1,4 +1,6 @@
 // One bit for each subset of at most twenty facts: whether a matching of a rule rules it out, and the first that none does.
+#![tactic(auto)]
+
 ghost use Rattle.std.specs.Prelude.{◌≡◌, suc, ◌*◌, ◌^◌, ◌<◌, ◌≤◌, length};
 ghost use Rattle.std.specs.Int.Bits.{bit_and};
 ghost use Rattle.subsets.specs.Table.{most_facts, most_words, AllOut, RulesOut, FirstLeft};

@@ -9,7 +9,7 @@ use lexis::kind::COMMA;
 use texts::place::{Place, past};
 
 // A comma, or, where `last`, the mark.
-#[derive(Drop)]
+#[derive(Clone, Copy)]
 pub struct SeparatorRead {
     pub progress: Progress,
     pub last: bool,

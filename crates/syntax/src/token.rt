@@ -8,14 +8,14 @@ use texts::place::Place;
 use tokens::next_token;
 
 // A token: the number of its kind, and where it stands. Reading goes on behind it.
-#[derive(Drop)]
+#[derive(Clone, Copy)]
 pub struct TokenRead {
     pub kind: u8,
     pub place: Place,
 }
 
 // How far reading has got: code 0 and where it goes on, or the number of a refusal and its place.
-#[derive(Drop)]
+#[derive(Clone, Copy)]
 pub struct Progress {
     pub code: u8,
     pub place: Place,

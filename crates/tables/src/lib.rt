@@ -1,4 +1,6 @@
 // The tables that the engine works on: rows of numbers at fixed strides, lent by the caller. What they stand for is in specs.
+#![tactic(auto)]
+
 pub mod row;
 
 // The numbers of a fact: its predicate, and 8 columns for its arguments.

@@ -6,7 +6,7 @@ use texts::place::Place;
 
 // `base`: where the text starts in the two texts. `at`: where reading stands in it. `ground`: it is a facts line, which has no variables,
 // no comments and no newlines. `over`: what stands here is one too many. `met`: how many variables of the rule have been met.
-#[derive(Drop)]
+#[derive(Clone, Copy)]
 pub struct Cursor {
     pub base: usize,
     pub at: Place,

@@ -21,7 +21,7 @@ use texts::places::put_place;
 use texts::sizes::{MOST_NUMBER, MOST_VARIABLES};
 
 // A term's number, and how many variables have been met behind it.
-#[derive(Drop)]
+#[derive(Clone, Copy)]
 pub struct TermRead {
     pub progress: Progress,
     pub number: u64,

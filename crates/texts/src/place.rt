@@ -5,7 +5,7 @@ ghost use Rattle.texts.specs.Places.{span_from};
 
 // A part of a text: its first byte, counted from 0, and its length; and the line and the column of that byte, counted from 1.
 // Where reading stands is such a part, and empty.
-#[derive(Drop)]
+#[derive(Clone, Copy)]
 pub struct Place {
     pub start: usize,
     pub len: usize,
@@ -14,7 +14,7 @@ pub struct Place {
 }
 
 // Bytes that follow each other, whatever line they stand on.
-#[derive(Drop)]
+#[derive(Clone, Copy)]
 pub struct Span {
     pub start: usize,
     pub len: usize,

@@ -1,4 +1,6 @@
 // Bytes to tokens: blanks and comments, and the longest token at a place, with its line and column.
+#![tactic(auto)]
+
 ghost use Rattle.std.specs.Prelude.{◌≡◌, false, ◌+◌, ◌<◌, length, drop};
 ghost use Rattle.texts.specs.Place.{Stands};
 ghost use Rattle.lexis.specs.Strings.{closing};
@@ -13,7 +15,7 @@ use texts::place::{Place, with_len};
 mod gap;
 
 // A token: what it is, and where it stands.
-#[derive(Drop)]
+#[derive(Clone, Copy)]
 pub struct Token {
     pub kind: Kind,
     pub place: Place,

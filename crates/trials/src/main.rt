@@ -1,5 +1,7 @@
 // Many cases in one run: reads frames from standard input until it ends, and writes an answer for each. A frame is a line of words
 // and numbers and the bytes that it announces; the run ends with the line BAD FRAME at one that is of no known form.
+#![tactic(auto)]
+
 use frames::{MOST_LINE, read_line, words};
 use print::say;
 use report::word::starts_with;

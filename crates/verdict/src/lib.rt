@@ -1,4 +1,6 @@
 // From a judgement over the tables to the answer.
+#![tactic(auto)]
+
 ghost use Rattle.std.specs.Prelude.{ℕ, ◌≤◌, ◌<◌, get_or};
 ghost use Rattle.grammar.specs.Sizes.{most_literals};
 ghost use Rattle.verdict.specs.Told.{FromOne, Small, Tells};
