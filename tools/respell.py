@@ -123,13 +123,12 @@ class Repository:
 
             def wanted(name, before, front):
                 if before == ".":
-                    return name in self.declared and not re.search(r"(?<![\w.])(goal|tie|code)\.$", front)
+                    return name in self.declared and name not in FIXED and not re.search(r"(?<![\w.])(goal|tie|code)\.$", front)
                 return name in own or (name in here and name not in foreign)
 
-        text = self.turn_words(text, wanted)
         for name, new in next((AGAIN[it] for it in AGAIN if path.endswith("/" + it)), {}).items():
             text = re.sub(rf"(?<![\w.'-]){name}(?![\w'-])", new, text)
-        return text
+        return self.turn_words(text, wanted)
 
     def rt_text(self, text):
         taken = set()

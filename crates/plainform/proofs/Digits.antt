@@ -13,7 +13,7 @@ use Rattle.lexis.specs.declared.class.Class.{Class}
 use Rattle.lexis.specs.declared.class.Class.TheVariants.{Lower, Upper, Digit, Underscore, Other}
 use Rattle.lexis.specs.declared.kind.Kind.TheVariants.{Number}
 use Rattle.lexis.specs.declared.run.Run.TheVariants.{Digits}
-use Rattle.lexis.specs.Class.{class_of, is_digit_lem}
+use Rattle.lexis.specs.Class.{class_of, is_digit}
 use Rattle.lexis.specs.Run.{goes_on}
 use Rattle.lexis.specs.Number.{decimal_after, decimal}
 use Rattle.texts.specs.Prefix.{every}
@@ -121,7 +121,7 @@ numeral n = by_tenths (λ n. Numeral n (digits n n)) one more n n (omega arith)
           first = λ g. rw (get_or-append (digits (n / 10) (n / 10)) ((48 + n % 10) ∷ []) 0 0 s) (ih.first (tens n h));
         })
 
-is_digit_lem : (c : Class) → is_digit_lem c ≡ true → c ≡ Digit
+is_digit_lem : (c : Class) → is_digit c ≡ true → c ≡ Digit
 is_digit_lem Lower h = absurd (true≢false (inv h))
 is_digit_lem Upper h = absurd (true≢false (inv h))
 is_digit_lem Digit h = refl

@@ -17,7 +17,7 @@ use Rattle.lexis.specs.Class.{class_of}
 use Rattle.lexis.specs.Run.{goes_on}
 use Rattle.texts.specs.Prefix.{prefix_len}
 use Rattle.lexis.specs.Spelling.{name_kind}
-use Rattle.tokens.specs.Token.{standing, placed, mark_at, string_at, other_at_lem, start_at, token_at}
+use Rattle.tokens.specs.Token.{standing, placed, mark_at, string_at, other_at, start_at, token_at}
 use Rattle.texts.specs.Place.{place_from, Stands}
 use Rattle.texts.proofs.Prefix.{drop_at}
 use Rattle.texts.proofs.Counting.{line_past, column_past}
@@ -35,8 +35,8 @@ module _ (s : List ℕ) (p : Place) (stands : Stands s p) where
   pub as_placed : (kind : Kind) (len : ℕ) → standing kind p len ≡ placed s kind p.start len
   as_placed kind len = rw (stands.line, stands.column)
 
-  pub as_other : (b : ℕ) (rest : List ℕ) → other_at_lem p b rest ≡ other_at_lem (place_from s p.start 0) b rest
-  unfolding other_at_lem string_at mark_at
+  pub as_other : (b : ℕ) (rest : List ℕ) → other_at p b rest ≡ other_at (place_from s p.start 0) b rest
+  unfolding other_at string_at mark_at
   as_other b rest = rw (stands.line, stands.column)
 
   pub as_end : length s ≤ p.start → standing End (record { start = length s; len = 0; line = p.line; column = p.column }) 0 ≡ placed s End (length s) 0
@@ -74,5 +74,5 @@ module _ (s : List ℕ) (at : ℕ) (h : at < length s) (class : Class) (e : clas
   pub anonymous_at : class ≡ Underscore → placed s Anonymous at 1 ≡ token_at s at
   anonymous_at q = rw (by_class Underscore q)
 
-  pub other_at_lem : class ≡ Other → other_at_lem (place_from s at 0) (get_or s at 0) (drop (at + 1) s) ≡ token_at s at
+  pub other_at_lem : class ≡ Other → other_at (place_from s at 0) (get_or s at 0) (drop (at + 1) s) ≡ token_at s at
   other_at_lem q = rw (by_class Other q)

@@ -18,7 +18,7 @@ returns c =
     let line-behind = starts-with.before.before in
     let part = line-behind.before in
     let start = part.before.before in
-    let word = sym starts-with.starts_with_lem.ensures ∙ c.before.if1.true in
+    let word = sym starts-with.starts_with.ensures ∙ c.before.if1.true in
     report_says _ _ start.requires _ part.part.ensures _ line-behind.line_behind.ensures Answer word _ c.answer.ensures
 
 returns_2 : tie.Need-returns-2
@@ -48,7 +48,7 @@ returns_4 c =
     let starts-with = if1.before in
     let part = starts-with.before.before.before in
     let start = part.before.before in
-    let no_answer = sym starts-with.starts_with_lem.ensures ∙ if1.if1.false in
+    let no_answer = sym starts-with.starts_with.ensures ∙ if1.if1.false in
     let no-inconsistent = sym starts-with2.starts-with2.ensures ∙ if2.if2.false in
     let no-unknown = sym starts-with3.starts-with3.ensures ∙ c.before.if3.false in
     report_stray _ _ start.requires _ part.part.ensures no_answer no-inconsistent no-unknown _ c.refused.ensures

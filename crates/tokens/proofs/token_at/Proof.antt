@@ -13,7 +13,7 @@ returns_2 : tie.Need-returns-2
 returns_2 c = c.placed4.ensures ∙ as_placed _ c.before.before.before.before.before.before.before.before.args.at c.before.before.before.before.before.before.before.before.requires _ _ ∙ zero_at _ _ c.before.before.before.before.before.before.if1.false _ c.before.before.before.before.class_of.ensures c.before.before.enum-told3.given.1 c.before.if2.true
 
 returns_3 : tie.Need-returns-3
-returns_3 c = c.placed2.ensures ∙ as_placed _ c.before.before.before.before.before.before.before.before.before.before.before.args.at c.before.before.before.before.before.before.before.before.before.before.before.requires _ _ ∙ name_at _ _ c.before.before.before.before.before.before.before.before.before.if1.false _ c.before.before.before.before.before.before.before.class_of.ensures c.before.before.before.before.before.enum_told.given.1 _ _ _ _ c.before.before.before.before.run-end.ensures c.before.before.before.byte_at.ensures c.before.before.byte-at2.ensures c.before.name_kind_lem.ensures
+returns_3 c = c.placed2.ensures ∙ as_placed _ c.before.before.before.before.before.before.before.before.before.before.before.args.at c.before.before.before.before.before.before.before.before.before.before.before.requires _ _ ∙ name_at _ _ c.before.before.before.before.before.before.before.before.before.if1.false _ c.before.before.before.before.before.before.before.class_of.ensures c.before.before.before.before.before.enum_told.given.1 _ _ _ _ c.before.before.before.before.run-end.ensures c.before.before.before.byte_at.ensures c.before.before.byte-at2.ensures c.before.name_kind.ensures
 
 returns_4 : tie.Need-returns-4
 returns_4 c = c.placed3.ensures ∙ as_placed _ c.before.before.before.before.before.before.before.before.args.at c.before.before.before.before.before.before.before.before.requires _ _ ∙ variable_at _ _ c.before.before.before.before.before.before.if1.false _ c.before.before.before.before.class_of.ensures c.before.before.enum-told2.given.1 _ c.before.run-end2.ensures
