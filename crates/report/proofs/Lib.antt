@@ -3,8 +3,6 @@ pub mod LineList
 pub mod WholeLines
 pub mod HandedOut
 pub mod Located
-pub mod TakenApart
-pub mod PassedOn
 pub mod Starting
 pub mod Passing
 pub mod Reporting
