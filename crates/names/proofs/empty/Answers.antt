@@ -2,11 +2,7 @@
 use native.Mathlib.Omega.{arith}
 use Rattle.names.specs.Table.{most_names, table_size}
 use Rattle.names.proofs.Emptied.{zeros_empty}
-use Rattle.names.proofs.empty.Statement.{statement}
-use Rattle.names.proofs.empty.Tie as tie
+use Rattle.names.proofs.empty.Goals as goal
 
-returns : tie.Need-returns
+pub returns : goal.returns
 returns c = zeros_empty most_names table_size (omega arith) (omega arith)
-
-pub empty_spec : {M : Type 1} → statement M
-empty_spec = tie.close (tie.spec returns)
