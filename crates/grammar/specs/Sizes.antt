@@ -50,7 +50,7 @@ too_long (symbol s) = false
 too_long (stray b) = false
 
 -- the first token of what is too many
-unfoldable pub too_many : Bool → Mark → Bool
+unfoldable pub too_many : (ground : Bool) → Mark → Bool
 too_many ground inside = false
 too_many ground (argument k) = ltb most_arguments k
 too_many ground (literal k) = ltb most_literals k

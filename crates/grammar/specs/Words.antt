@@ -1,5 +1,5 @@
 -- Words to write worked examples with: parts of texts, and of the rules that they are read as.
-use Rattle.std.specs.Prelude.{true, false, List, [], ◌∷◌, ℕ, zero, suc, pos}
+use Rattle.std.specs.Prelude.{Bool, true, false, List, [], ◌∷◌, ℕ, zero, suc, pos}
 use Rattle.meaning.specs.Domain.{equal}
 use Rattle.meaning.specs.Values.{Value}
 use Rattle.meaning.specs.Rules.{Term, constant, Atom, Literal, Rule}
@@ -7,10 +7,10 @@ use Rattle.grammar.specs.Tokens.{sign, Symbol, opening, closing, comma, dot, :-,
 use Rattle.grammar.specs.Example.{Outcome, Example}
 
 abbrev pub program : List Token → Outcome → Example
-program ts o = record { ground = false; text = ts; outcome = o }
+program ts o = let ground : Bool = false in record { ground = ground; text = ts; outcome = o }
 
 abbrev pub facts : List Token → Outcome → Example
-facts ts o = record { ground = true; text = ts; outcome = o }
+facts ts o = let ground : Bool = true in record { ground = ground; text = ts; outcome = o }
 
 abbrev pub a : Token
 a = name (97 ∷ [])

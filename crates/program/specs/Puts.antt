@@ -31,7 +31,7 @@ use Rattle.program.specs.declared.put.RulePut.{RulePut}
 
 -- the program is the first of the two texts, and no variable of the rule has been met
 abbrev pub cursor_at : RuleStart → Cursor
-cursor_at s = record { base = 0; at = s.at; ground = false; over = s.over; met = 0 }
+cursor_at s = let ground : Bool = false in record { base = 0; at = s.at; ground = ground; over = s.over; met = 0 }
 
 -- what is asked: room for one that is not too many
 pub record Puttable (program output : Bytes) (names variables rules literals : List ℕ) (s : RuleStart) : Type 0 where

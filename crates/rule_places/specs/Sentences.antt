@@ -25,5 +25,5 @@ to_dot end [] = end
 to_dot end (t ∷ ts) = with_len t.place (dot_end end (t ∷ ts) - t.place.start)
 
 -- rule k of a text, or fact k of a facts line, counted from 0
-unfoldable pub sentence : Bool → Bytes → ℕ → Place
+unfoldable pub sentence : (ground : Bool) → Bytes → ℕ → Place
 sentence ground text k = to_dot (end_of text) (behind_dots k (placed_from ground text 0))

@@ -48,7 +48,7 @@ abbrev pub placed_token : Bytes → TextToken → Placed Place Token
 placed_token text t = record { token = token_of t.kind (part text t.place); place = t.place }
 
 -- the tokens from a place on; comments and newlines may stand in a program, and not on a facts line
-abbrev pub placed_from : Bool → Bytes → ℕ → List (Placed Place Token)
+abbrev pub placed_from : (ground : Bool) → Bytes → ℕ → List (Placed Place Token)
 placed_from ground text at = map (placed_token text) (tokens_from (not ground) text at)
 
 -- the end of a text, empty
@@ -56,7 +56,7 @@ abbrev pub end_of : Bytes → Place
 end_of text = place_from text (length text) 0
 
 -- the first token at or after a place, as the productions see it
-abbrev pub token_read : Bool → Bytes → ℕ → TokenRead
+abbrev pub token_read : (ground : Bool) → Bytes → ℕ → TokenRead
 token_read ground text at = let t = next_token (not ground) text at in record { kind = kind_number t.kind; place = t.place }
 
 -- where reading goes on behind it

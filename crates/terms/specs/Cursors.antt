@@ -36,4 +36,4 @@ met_before variables k = places_in variables k.met
 
 -- the cursor at another place of the same text
 abbrev pub onward : Cursor → Place → Bool → ℕ → Cursor
-onward k at over met = record { base = k.base; at = at; ground = k.ground; over = over; met = met }
+onward k at over met = record k { at = at; over = over; met = met }
