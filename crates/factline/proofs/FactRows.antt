@@ -52,10 +52,14 @@ value_coded names c v h = go (ltb c 16) refl h.related
 values_coded : (names : List Bytes) (cs : List ℕ) (vs : List Value) → Pairwise (CodedTerm names) cs (map constant vs) → Pairwise (Coded names) cs vs
 values_coded names [] [] end = end
 values_coded names (c ∷ cs) (v ∷ vs) (pair h hs) = pair (value_coded names c v h).0 (values_coded names cs vs hs)
+values_coded names [] (v ∷ vs) x'' = elim x'' [ ]
+values_coded names (c ∷ cs) [] x3 = elim x3 [ ]
 
 values_ground : (names : List Bytes) (cs : List ℕ) (vs : List Value) → Pairwise (CodedTerm names) cs (map constant vs) → (c : ℕ) → In c cs → no_value < c
 values_ground names (c ∷ cs) (v ∷ vs) (pair h hs) d (inl e) = let k = (value_coded names c v h).1 in omega arith
 values_ground names (c ∷ cs) (v ∷ vs) (pair h hs) d (inr m) = values_ground names cs vs hs d m
+values_ground names [] vs _ d x3 = elim x3 [ ]
+values_ground names (c ∷ cs) [] x5 d _ = elim x5 [ ]
 
 -- ---- the stored row
 
