@@ -1,11 +1,11 @@
 -- `kept_facts` meets its contract. The invariant: the set has the facts before this one whose bits the number has. The measure is how many facts are
 -- left. Assumes nothing.
 use mathlib.Core.Path.{◌≡◌}
-use mathlib.Core.Logic.{inl, inr}
 use Prim.Native.Nat.{◌-◌}
 use native.Mathlib.Omega.{arith}
 use Rattle.subset_test.proofs.KeptSets.{bit_one, bit_not_one, no_facts, fact_marked, fact_passed}
 use Rattle.subset_test.proofs.kept_facts.Goals as goal
+use Rattle.subset_test.proofs.kept_facts.Goals.{then-number-a-eq1, else-number-a-eq1}
 
 pub loop-a-init : goal.loop-a-init
 loop-a-init c = (omega arith, rw c.empty-set.ensures (no_facts c.args.number))
@@ -18,8 +18,8 @@ loop-a-preserved c =
     let loop = c.loop-a in (
       omega arith,
       elim c.if-number-a-eq1.branch [
-        | inl w ↦ rw w.2 (fact_marked c.args.number loop.a loop.set loop.invariant.1 (bit_one _ _ w.0.taken) (omega (arith, c.requires, c.loop-a-test.true)) _ w.1.ensures)
-        | inr w ↦ rw w.1 (fact_passed c.args.number loop.a loop.set loop.invariant.1 (bit_not_one _ _ w.0.left))
+        | then-number-a-eq1 w ↦ rw w.set-is (fact_marked c.args.number loop.a loop.set loop.invariant.1 (bit_one _ _ w.if-number-a-eq1.true) (omega (arith, c.requires, c.loop-a-test.true)) _ w.mark-set.ensures)
+        | else-number-a-eq1 w ↦ rw w.set-is (fact_passed c.args.number loop.a loop.set loop.invariant.1 (bit_not_one _ _ w.if-number-a-eq1.false))
       ],
     )
 

@@ -1,11 +1,11 @@
 -- `heads::heads_mask` meets its contract. The invariant: the mask has the heads before this one. The measure is how many are left. Assumes nothing.
 use mathlib.Core.Path.{◌≡◌}
-use mathlib.Core.Logic.{inl, inr}
 use Prim.Native.Nat.{◌-◌}
 use native.Mathlib.Omega.{arith}
 use Rattle.derived_set.proofs.Bits.{one_shifted}
 use Rattle.subset_test.proofs.HeadMasks.{no_heads, head_masked, head_unmasked}
 use Rattle.subset_test.proofs.heads.heads_mask.Goals as goal
+use Rattle.subset_test.proofs.heads.heads_mask.Goals.{then-place-count, else-place-count}
 
 pub loop-k-init : goal.loop-k-init
 loop-k-init c = let a = c.args in (omega arith, no_heads a.store.now a.count a.first a.values.now)
@@ -28,8 +28,8 @@ loop-k-preserved c =
     let place = c.place-place in (
       omega arith,
       elim c.if-place-count.branch [
-        | inl w ↦ rw (w.1, one_shifted place.result (omega (arith, c.requires.2, w.0.taken))) (head_masked a.store.now a.count a.first a.values.now loop.k loop.mask loop.invariant.1 _ place.ensures c.requires.1 c.requires.2 w.0.taken)
-        | inr w ↦ rw w.1 (head_unmasked a.store.now a.count a.first a.values.now loop.k loop.mask loop.invariant.1 _ place.ensures (omega (arith, w.0.left)))
+        | then-place-count w ↦ rw (w.mask-is, one_shifted place.result (omega (arith, c.requires.2, w.if-place-count.true))) (head_masked a.store.now a.count a.first a.values.now loop.k loop.mask loop.invariant.1 _ place.ensures c.requires.1 c.requires.2 w.if-place-count.true)
+        | else-place-count w ↦ rw w.mask-is (head_unmasked a.store.now a.count a.first a.values.now loop.k loop.mask loop.invariant.1 _ place.ensures (omega (arith, w.if-place-count.false)))
       ],
     )
 
