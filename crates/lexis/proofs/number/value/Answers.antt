@@ -1,6 +1,5 @@
 -- `number::value` meets its contract. The invariant: what is left of the digits, after the number so far, says what all say.
 -- The measure is what is left of the digits. Assumes nothing.
-use Prim.Native.Nat.{◌-◌}
 use mathlib.Core.Path.{refl, sym, ap, ◌∙◌}
 use Rattle.lexis.specs.Number.{capped}
 use Rattle.lexis.proofs.Decimal.{capped_twice, decimal_end, decimal_on}

@@ -1,9 +1,7 @@
 -- `run::run_end` meets its contract. The invariant: what is left of the run from here, added to here, is where the run ends.
 -- The measure is what is left of the text. Assumes nothing.
-use Prim.Native.Nat.{◌+◌, ◌-◌}
 use mathlib.Core.Path.{refl, sym, ◌∙◌}
 use borrow.Author.Tests.{not-true, not-false}
-use Rattle.lexis.specs.Run.{goes_on}
 use Rattle.texts.proofs.Prefix.{prefix_end, prefix_stop, prefix_on}
 use Rattle.lexis.proofs.run.run_end.Goals as goal
 

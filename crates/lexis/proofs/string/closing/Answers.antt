@@ -1,6 +1,5 @@
 -- `string::closing` meets its contract. The invariant: what is read behind the opening quote, and what ends the string from here on,
 -- are together what ends it. The measure is what is left of the text. Assumes nothing.
-use Prim.Native.Nat.{◌-◌}
 use native.Mathlib.Omega.{arith}
 use mathlib.Core.Path.{◌∙◌, ap}
 use mathlib.Core.Bool.{Bool}

@@ -3,7 +3,6 @@
 use Prim.Native.Nat.{◌+◌, ◌-◌}
 use native.Mathlib.Omega.{arith}
 use mathlib.Core.Path.{◌≡◌, sym, ap, ◌∙◌}
-use mathlib.Core.Bool.{true}
 use lib.ListN.{length, get_or}
 use Rattle.texts.proofs.PartBytes.{told_apart, same_behind, same_on}
 use Rattle.texts.proofs.parts.same_bytes.Goals as goal

@@ -1,6 +1,6 @@
 -- `parts::same_bytes` meets its contract. The invariant: the bytes seen, from the last one back, are the same. The measure is how many
 -- are left. Assumes nothing.
-use Prim.Native.Nat.{◌+◌, ◌-◌}
+use Prim.Native.Nat.{◌-◌}
 use mathlib.Core.Path.{◌≡◌}
 use mathlib.Core.Bool.{true}
 use lib.ListN.{length, drop}

@@ -1,5 +1,4 @@
 -- `places::place_in` meets its contract: four numbers are read, one behind the other. Assumes nothing.
-use borrow.Author.Rules.{rules}
 use Rattle.texts.proofs.places.place_in.Goals as goal
 
 pub returns : goal.returns

@@ -1,5 +1,4 @@
 -- `places::put_place` meets its contract: four numbers are put, one behind the other. Assumes nothing.
-use borrow.Author.Rules.{rules}
 use Rattle.texts.proofs.places.put_place.Goals as goal
 
 pub returns : goal.returns
