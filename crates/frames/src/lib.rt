@@ -3,7 +3,8 @@
 
 ghost use Rattle.std.specs.Prelude.{◌≡◌, ◌≤◌};
 
-use libc::STDIN_FILENO;
+use std::io;
+use std::io::{ErrorKind, Read};
 use texts::parts::bytes_in;
 use texts::place::span_from;
 
@@ -39,44 +40,42 @@ pub struct Number {
     pub next: usize,
 }
 
-fn next_byte() -> Next {
+fn next_byte(input: &mut impl Read) -> io::Result<Next> {
     let mut byte = [0u8; 1];
-    let got = io::read_full(STDIN_FILENO, &mut byte);
-    Next {
-        found: got == 1,
+    let found = read_bytes(input, &mut byte, 1)?;
+    Ok(Next {
+        found,
         byte: byte[0],
-    }
+    })
 }
 
 // Is a newline next?
-pub fn newline() -> bool {
-    let next = next_byte();
+pub fn newline(input: &mut impl Read) -> io::Result<bool> {
+    let next = next_byte(input)?;
     if !next.found {
-        return false;
+        return Ok(false);
     }
-    next.byte == b'\n'
+    Ok(next.byte == b'\n')
 }
 
-pub fn read_line(line: &mut [u8; MOST_LINE]) -> Line {
-    let mut len = 0;
-    while len < MOST_LINE {
-        let next = next_byte();
+pub fn read_line(input: &mut impl Read, line: &mut [u8; MOST_LINE]) -> io::Result<Line> {
+    for len in 0..MOST_LINE {
+        let next = next_byte(input)?;
         if !next.found {
-            return Line {
+            return Ok(Line {
                 ended: len == 0,
                 len: 0,
-            };
+            });
         }
         if next.byte == b'\n' {
-            return Line { ended: false, len };
+            return Ok(Line { ended: false, len });
         }
         line[len] = next.byte;
-        len += 1;
     }
-    Line {
+    Ok(Line {
         ended: false,
         len: 0,
-    }
+    })
 }
 
 // The words of a line of this length.
@@ -160,9 +159,13 @@ pub fn ends_with(line: &[u8], last: Number) -> bool {
 }
 
 // Reads n bytes to the start of a text, for which there is room: whether they all came.
-pub fn read_bytes(text: &mut [u8], n: usize) -> bool {
+pub fn read_bytes(input: &mut impl Read, text: &mut [u8], n: usize) -> io::Result<bool> {
     if text.len() < n {
-        return false;
+        return Ok(false);
     }
-    io::read_full(STDIN_FILENO, &mut text[0..n]) == n
+    match input.read_exact(&mut text[0..n]) {
+        Ok(()) => Ok(true),
+        Err(error) if error.kind() == ErrorKind::UnexpectedEof => Ok(false),
+        Err(error) => Err(error),
+    }
 }
