@@ -11,7 +11,7 @@ use lib.ListN.{length, get_elem?}
 use lib.IntN.{ℤ}
 use lib.Signed.{lt_z}
 use borrow.Author.Tests.{ltb-true, ltb-false, leb-true, eqb-true, eq-eqb, ne_eqb, lt-ltb, le-ltb, le-leb}
-use Rattle.meaning.specs.Domain.{Comparison, equal, unequal, less, at_most, greater, at_least_lem}
+use Rattle.meaning.specs.Domain.{Comparison, equal, unequal, less, at_most, greater, at_least}
 use Rattle.meaning.specs.Rules.{Bytes}
 use Rattle.meaning.specs.Values.{Value, number, in_range, bytes_before, value_before, compare_by}
 use Rattle.meaning.proofs.Booleans.{and_left, and_right, both_ways, never_true, some_inj}
@@ -31,7 +31,7 @@ module _ {A B : Type 0} (same before : A → A → Bool) (same' before' : B → 
   compare_alike less v w a b p q r = q
   compare_alike at_most v w a b p q r = ap not r
   compare_alike greater v w a b p q r = r
-  compare_alike at_least_lem v w a b p q r = ap not q
+  compare_alike at_least v w a b p q r = ap not q
 
 -- ---- two names, or two strings
 

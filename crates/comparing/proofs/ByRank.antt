@@ -7,7 +7,7 @@ use native.Mathlib.Omega.{arith}
 use borrow.Author.Tests.{eqb-false, eq-eqb, ne_eqb}
 use lib.Dec.{eqb, ltb}
 use lib.ListN.{length, get_or}
-use Rattle.meaning.specs.Domain.{Comparison, equal, unequal, less, at_most, greater, at_least_lem}
+use Rattle.meaning.specs.Domain.{Comparison, equal, unequal, less, at_most, greater, at_least}
 use Rattle.meaning.specs.Rules.{Bytes}
 use Rattle.meaning.specs.Values.{compare_by}
 use Rattle.codes.specs.Codes.{no_value}
@@ -27,11 +27,11 @@ module _ (P : Comparison → Type 0) (n : ℕ) where
       go true z = rw z e
       go false z = rw (z, eq-eqb n 1 (let d = eqb-false n 0 z in omega arith)) u
 
-  for_order : 1 < n → P less → P at_most → P greater → P at_least_lem → P (comparison_at n)
+  for_order : 1 < n → P less → P at_most → P greater → P at_least → P (comparison_at n)
   unfolding comparison_at
   for_order h l m g a = rw (ne_eqb n 0 (λ e. omega arith), ne_eqb n 1 (λ e. omega arith)) (go (eqb n 2) (eqb n 3) (eqb n 4))
     where
-      go : (x y z : Bool) → P (cond x less (cond y at_most (cond z greater at_least_lem)))
+      go : (x y z : Bool) → P (cond x less (cond y at_most (cond z greater at_least)))
       go true y z = l
       go false true z = m
       go false false true = g

@@ -10,7 +10,7 @@ use lib.Dec.{eqb, leb}
 use lib.ListN.{get_or, get_or-eq_default}
 use borrow.Author.Tests.{ne_eqb, eqb-false, le-leb}
 use Rattle.reading.specs.Machine.{Step}
-use Rattle.meaning.specs.Domain.{Comparison, equal, unequal, less, at_most, greater, at_least_lem}
+use Rattle.meaning.specs.Domain.{Comparison, equal, unequal, less, at_most, greater, at_least}
 use Rattle.meaning.specs.Rules.{Bytes}
 use Rattle.grammar.specs.Tokens.{Sign, sign, <>, Symbol, underscore, not, minus, opening, closing, comma, dot, :-, plus, times, bar, Token, name, variable, string, number, comparison, symbol, stray}
 use Rattle.grammar.specs.Spelling.{Mark, inside}
@@ -79,7 +79,7 @@ comparisons unequal = record { low = omega arith; high = omega arith }
 comparisons less = record { low = omega arith; high = omega arith }
 comparisons at_most = record { low = omega arith; high = omega arith }
 comparisons greater = record { low = omega arith; high = omega arith }
-comparisons at_least_lem = record { low = omega arith; high = omega arith }
+comparisons at_least = record { low = omega arith; high = omega arith }
 
 pub signs : (r : Sign) → SignNumber (sign_number r)
 unfolding sign_number

@@ -2,7 +2,7 @@
 use Rattle.std.specs.Prelude.{Bool, true, false, List, [], ◌∷◌, ℕ, eqb}
 use Rattle.std.proofs.Math.Option.{Option, none, some}
 use Rattle.reading.specs.Machine.{Step}
-use Rattle.meaning.specs.Domain.{Comparison, equal, unequal, less, at_most, greater, at_least_lem}
+use Rattle.meaning.specs.Domain.{Comparison, equal, unequal, less, at_most, greater, at_least}
 use Rattle.meaning.specs.Rules.{Bytes}
 use Rattle.grammar.specs.Tokens.{Sign, sign, <>, Symbol, underscore, not, minus, opening, closing, comma, dot, :-, plus, times, bar, Token, name, variable, string, number, comparison, symbol, stray}
 use Rattle.grammar.specs.Trees.{Free}
@@ -40,7 +40,7 @@ comparison_number unequal = 14
 comparison_number less = 16
 comparison_number at_most = 17
 comparison_number greater = 18
-comparison_number at_least_lem = 19
+comparison_number at_least = 19
 
 unfoldable pub sign_number : Sign → ℕ
 sign_number (sign c) = comparison_number c

@@ -1,6 +1,6 @@
 -- The bytes of tokens set side by side, with a blank only where two of them would else read as others.
 use Rattle.std.specs.Prelude.{◌≡◌, ◌⊎◌, Bool, true, false, ◌&&◌, ◌||◌, cond, List, [], ◌∷◌, ◌++◌, ℕ, zero, suc, ◌+◌, ◌/◌, ◌%◌, ltb}
-use Rattle.meaning.specs.Domain.{Comparison, equal, unequal, less, at_most, greater, at_least_lem}
+use Rattle.meaning.specs.Domain.{Comparison, equal, unequal, less, at_most, greater, at_least}
 use Rattle.meaning.specs.Rules.{Bytes}
 use Rattle.grammar.specs.Tokens.{Sign, sign, <>, Symbol, underscore, not, minus, opening, closing, comma, dot, :-, plus, times, bar, Token, name, variable, string, number, comparison, symbol, stray}
 
@@ -28,7 +28,7 @@ comparison_bytes unequal = 33 ∷ 61 ∷ []
 comparison_bytes less = 60 ∷ []
 comparison_bytes at_most = 60 ∷ 61 ∷ []
 comparison_bytes greater = 62 ∷ []
-comparison_bytes at_least_lem = 62 ∷ 61 ∷ []
+comparison_bytes at_least = 62 ∷ 61 ∷ []
 
 unfoldable pub sign_bytes : Sign → Bytes
 sign_bytes (sign c) = comparison_bytes c

@@ -1,7 +1,7 @@
 -- Comparisons and results of operations, worked out by hand from documents 01 and 02.
 use Prim.Native.String.{String}
 use Rattle.std.specs.Prelude.{Bool, true, false, List, [], ◌∷◌, ℤ, pos, negsuc}
-use Rattle.meaning.specs.Domain.{Comparison, equal, unequal, less, at_most, greater, at_least_lem, Operation, plus, minus, times}
+use Rattle.meaning.specs.Domain.{Comparison, equal, unequal, less, at_most, greater, at_least, Operation, plus, minus, times}
 use Rattle.meaning.specs.Values.{Value, number, name, string}
 use Rattle.meaning.specs.Ascii.{ascii}
 
@@ -37,8 +37,8 @@ comparisons =
     ∷ numbers at_most (pos 10) (pos 9) false
     ∷ numbers greater (pos 0) (negsuc 0) true
     ∷ numbers greater (pos 7) (pos 7) false
-    ∷ numbers at_least_lem (pos 7) (pos 7) true
-    ∷ numbers at_least_lem (negsuc 4) (negsuc 3) false
+    ∷ numbers at_least (pos 7) (pos 7) true
+    ∷ numbers at_least (negsuc 4) (negsuc 3) false
     ∷ names equal "north" "north" true
     ∷ names equal "north" "nort" false
     ∷ names unequal "a" "a" false
@@ -51,8 +51,8 @@ comparisons =
     ∷ names at_most "southwest" "south" false
     ∷ names greater "b" "abc" true
     ∷ names greater "a" "a" false
-    ∷ names at_least_lem "a" "a" true
-    ∷ names at_least_lem "south" "southwest" false
+    ∷ names at_least "a" "a" true
+    ∷ names at_least "south" "southwest" false
     ∷ strings equal "a" "a" true
     ∷ strings equal "a" "a " false
     ∷ strings less "" "a" true
@@ -66,11 +66,11 @@ comparisons =
     ∷ kinds less (number (pos 1_000_000_000)) (name (ascii "a")) true
     ∷ kinds at_most (name (ascii "a")) (number (pos 0)) false
     ∷ kinds greater (name (ascii "a")) (number (pos 0)) true
-    ∷ kinds at_least_lem (number (pos 0)) (name (ascii "a")) false
+    ∷ kinds at_least (number (pos 0)) (name (ascii "a")) false
     ∷ kinds equal (name (ascii "a")) (string (ascii "a")) false
     ∷ kinds unequal (string (ascii "a")) (name (ascii "a")) true
     ∷ kinds less (name (ascii "z")) (string (ascii "")) true
-    ∷ kinds at_least_lem (name (ascii "z")) (string (ascii "")) false
+    ∷ kinds at_least (name (ascii "z")) (string (ascii "")) false
     ∷ kinds unequal (number (pos 1)) (string (ascii "1")) true
     ∷ kinds greater (string (ascii "1")) (number (pos 2)) true
     ∷ kinds at_most (string (ascii "1")) (number (pos 2)) false

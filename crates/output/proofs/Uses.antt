@@ -101,6 +101,8 @@ module _ (text : Bytes) where
 
   behind_on : (word : Word) (l : Place) (next : ℕ) {line : Place} {fs : Program true} → Behind text word l next (on (facts line fs)) → (l ≡ line) × ReadAs true (part text line) (tree fs)
   behind_on Answer l next (goes fs x h (closes end k)) = (refl, facts_on l h)
+  behind_on Inconsistent l next {line = line} {fs = fs} x' = elim x' [ ]
+  behind_on Unknown l next {line = line} {fs = fs} x'' = elim x'' [ ]
 
   pub handed_on : {line : Place} {fs : Program true} → OutputStage text (on (facts line fs)) → HandedOn text line fs
   handed_on {line} {fs} (goes u x (passed s) (goes o y h b)) =

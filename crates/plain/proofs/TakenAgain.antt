@@ -69,7 +69,10 @@ pub record TakenAgain (text left : Bytes) (n : ℕ) : Type 0 where
   pub is_taken : ProgramStage (take n left) (on again)
   pub same_rules : rules_for again ≡ rules_for program
 
+program_taken : (text buffer : Bytes) (c : Program false) → ProgramStage text (on c) → (a : Written) (left : Bytes) → WritesProgram c buffer a left → a.code ≡ 0 → TakenAgain text left a.length
+program_taken text buffer c s _ _ (WritesProgram.short h) z = absurd (omega arith)
+program_taken text buffer c s _ _ (WritesProgram.writes h) z = record { program = c; was_taken = s; again = plain_form c; is_taken = rw (take-append_seam (plain_bytes c) (drop (length (plain_bytes c)) buffer)) (plain_taken text c s); same_rules = plain_same c }
+
 pub written_taken : (text buffer : Bytes) (a : Written) (left : Bytes) → Writes text buffer a left → a.code ≡ 0 → TakenAgain text left a.length
 written_taken text buffer a left (refuses n p r) z = absurd (omega (arith, (refused_between text n p r).0))
-written_taken text buffer a left (takes c s b l (WritesProgram.short h)) z = absurd (omega arith)
-written_taken text buffer a left (takes c s b l (WritesProgram.writes h)) z = record { program = c; was_taken = s; again = plain_form c; is_taken = rw (take-append_seam (plain_bytes c) (drop (length (plain_bytes c)) buffer)) (plain_taken text c s); same_rules = plain_same c }
+written_taken text buffer a left (takes c s b l h) z = program_taken text buffer c s b l h z

@@ -20,7 +20,7 @@ use Rattle.texts.specs.Prefix.{every}
 use Rattle.tokens.specs.Spells.{Starts}
 use Rattle.lexis.specs.Strings.{quote, Quotable, quoted}
 use Rattle.lexis.proofs.Strings.{string_kind_lem, quotable_closing, between_quoted, string_quotable}
-use Rattle.meaning.specs.Domain.{equal, unequal, less, at_most, greater, at_least_lem}
+use Rattle.meaning.specs.Domain.{equal, unequal, less, at_most, greater, at_least}
 use Rattle.meaning.specs.Rules.{Bytes}
 use Rattle.grammar.specs.Tokens.{sign, <>, underscore, not, minus, opening, closing, comma, dot, :-, plus, times, bar, Token, name, variable, string, number, comparison, symbol, stray}
 use Rattle.grammar.specs.Writing.{symbol_bytes, comparison_bytes, sign_bytes, token_bytes, is_word_symbol, is_word, is_comparison, run_together, blank, written}
@@ -74,7 +74,7 @@ ends (comparison (sign unequal)) s c h = refl
 ends (comparison (sign less)) s c h = let n = h.comparison refl in rw (n.0, n.1)
 ends (comparison (sign at_most)) s c h = refl
 ends (comparison (sign greater)) s c h = rw (h.comparison refl).0
-ends (comparison (sign at_least_lem)) s c h = refl
+ends (comparison (sign at_least)) s c h = refl
 ends (comparison <>) s c h = refl
 ends (symbol underscore) s c h = refl
 ends (symbol not) s c h = rw (h.word refl)
@@ -111,7 +111,7 @@ mark_first (comparison (sign unequal)) s h r = refl
 mark_first (comparison (sign less)) s h r = refl
 mark_first (comparison (sign at_most)) s h r = refl
 mark_first (comparison (sign greater)) s h r = refl
-mark_first (comparison (sign at_least_lem)) s h r = refl
+mark_first (comparison (sign at_least)) s h r = refl
 mark_first (comparison <>) s h r = refl
 mark_first (symbol underscore) s h r = absurd (true≢false h)
 mark_first (symbol not) s h r = absurd (true≢false h)

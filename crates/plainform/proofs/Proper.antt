@@ -4,7 +4,7 @@ use Rattle.lexis.specs.declared.kind.Kind.{Kind}
 use Rattle.lexis.specs.declared.kind.Kind.TheVariants.{Name, Not, Variable, Anonymous, Number, Open, Close, Comma, Dot, If, Minus, Plus, Times, Equal, Unequal, AlsoUnequal, Less, AtMost, Greater, AtLeast, End, Stray, String, Bar}
 use Rattle.tokens.specs.Spells.{Spells}
 use Rattle.lexis.proofs.Strings.{between_quoted, string_parts}
-use Rattle.meaning.specs.Domain.{Comparison, equal, unequal, less, at_most, greater, at_least_lem}
+use Rattle.meaning.specs.Domain.{Comparison, equal, unequal, less, at_most, greater, at_least}
 use Rattle.meaning.specs.Rules.{Bytes}
 use Rattle.grammar.specs.Tokens.{Sign, sign, <>, Symbol, underscore, not, minus, opening, closing, comma, dot, :-, plus, times, bar, Token, name, variable, string, number, comparison, symbol, stray}
 use Rattle.grammar.specs.Writing.{symbol_bytes, comparison_bytes, sign_bytes, token_bytes}
@@ -30,7 +30,7 @@ comparison_kind unequal = Unequal
 comparison_kind less = Less
 comparison_kind at_most = AtMost
 comparison_kind greater = Greater
-comparison_kind at_least_lem = AtLeast
+comparison_kind at_least = AtLeast
 
 unfoldable pub sign_kind : Sign → Kind
 sign_kind (sign c) = comparison_kind c
@@ -62,7 +62,7 @@ token_again (comparison (sign unequal)) h = refl
 token_again (comparison (sign less)) h = refl
 token_again (comparison (sign at_most)) h = refl
 token_again (comparison (sign greater)) h = refl
-token_again (comparison (sign at_least_lem)) h = refl
+token_again (comparison (sign at_least)) h = refl
 token_again (comparison <>) h = refl
 token_again (symbol underscore) h = refl
 token_again (symbol not) h = refl

@@ -2,7 +2,7 @@
 use mathlib.Core.Path.{◌≡◌, refl, ap, ◌∙◌}
 use mathlib.Core.Bool.{Bool, true, false, ◌&&◌, ◌||◌, cond}
 use mathlib.Core.List.{List, [], ◌∷◌, ◌++◌, append_assoc, append-nil}
-use Rattle.meaning.specs.Domain.{equal, unequal, less, at_most, greater, at_least_lem}
+use Rattle.meaning.specs.Domain.{equal, unequal, less, at_most, greater, at_least}
 use Rattle.meaning.specs.Rules.{Bytes}
 use Rattle.grammar.specs.Tokens.{sign, <>, underscore, not, minus, opening, closing, comma, dot, :-, plus, times, bar, Token, name, variable, string, number, comparison, symbol, stray}
 use Rattle.grammar.specs.Moves.{token_number, symbol_number, sign_number, comparison_number}
@@ -27,7 +27,7 @@ sorted (comparison (sign unequal)) = record { is_a_word = refl; is_compared = re
 sorted (comparison (sign less)) = record { is_a_word = refl; is_compared = refl; not_both = refl }
 sorted (comparison (sign at_most)) = record { is_a_word = refl; is_compared = refl; not_both = refl }
 sorted (comparison (sign greater)) = record { is_a_word = refl; is_compared = refl; not_both = refl }
-sorted (comparison (sign at_least_lem)) = record { is_a_word = refl; is_compared = refl; not_both = refl }
+sorted (comparison (sign at_least)) = record { is_a_word = refl; is_compared = refl; not_both = refl }
 sorted (comparison <>) = record { is_a_word = refl; is_compared = refl; not_both = refl }
 sorted (symbol underscore) = record { is_a_word = refl; is_compared = refl; not_both = refl }
 sorted (symbol not) = record { is_a_word = refl; is_compared = refl; not_both = refl }

@@ -11,7 +11,7 @@ use borrow.Author.Tests.{ne_eqb}
 use Rattle.lexis.specs.Number.{decimal_after, decimal}
 use Rattle.reading.specs.Reading.{Marked, ◌at◌, tokens}
 use Rattle.reading.proofs.Lists.{tokens_append}
-use Rattle.meaning.specs.Domain.{Operation, equal, unequal, less, at_most, greater, at_least_lem}
+use Rattle.meaning.specs.Domain.{Operation, equal, unequal, less, at_most, greater, at_least}
 use Rattle.meaning.specs.Rules.{Bytes}
 use Rattle.grammar.specs.Tokens.{Sign, sign, <>, Symbol, not, minus, opening, closing, comma, dot, :-, bar, Token, comparison, symbol}
 use Rattle.grammar.specs.Trees.{Sequence, empty, ◌then◌, count, Term, name, variable, string, number, negative, anonymous, Arguments, bare, parentheses, arguments, Atom, atom, Literal, positive, negated, compared, computed, Heads, head, also, Rule, fact, clause, Program}
@@ -100,7 +100,7 @@ a_comparison (sign unequal) = ((λ k b f. refl), refl)
 a_comparison (sign less) = ((λ k b f. refl), refl)
 a_comparison (sign at_most) = ((λ k b f. refl), refl)
 a_comparison (sign greater) = ((λ k b f. refl), refl)
-a_comparison (sign at_least_lem) = ((λ k b f. refl), refl)
+a_comparison (sign at_least) = ((λ k b f. refl), refl)
 a_comparison <> = ((λ k b f. refl), refl)
 
 a_sign : {P : ℕ → Type 0} (r : Sign) → Rewrites P Fresh (comparison r at inside ∷ []) (comparison (plain_sign r) at inside ∷ [])

@@ -14,7 +14,7 @@ use Rattle.texts.specs.declared.place.Place.{Place}
 use Rattle.reading.specs.Reading.{Placed, unplaced, seen}
 use Rattle.reading.proofs.Lists.{none_some, some_inj}
 use Rattle.meaning.specs.Rules.{Bytes}
-use Rattle.meaning.specs.Domain.{equal, unequal, less, at_most, greater, at_least_lem}
+use Rattle.meaning.specs.Domain.{equal, unequal, less, at_most, greater, at_least}
 use Rattle.grammar.specs.Tokens.{Sign, sign, <>, underscore, not, minus, opening, closing, comma, dot, :-, plus, times, bar, Token, name, variable, string, number, comparison, symbol, stray}
 use Rattle.grammar.specs.Variables.{Variables, number_of, with_variable, meet_symbol, meet}
 use Rattle.grammar.specs.Sizes.{programs}
@@ -30,7 +30,7 @@ comparison_goes (sign unequal) = refl
 comparison_goes (sign less) = refl
 comparison_goes (sign at_most) = refl
 comparison_goes (sign greater) = refl
-comparison_goes (sign at_least_lem) = refl
+comparison_goes (sign at_least) = refl
 comparison_goes <> = refl
 
 -- ---- one token: it ends the rule, a variable is met at it for the first time, or neither

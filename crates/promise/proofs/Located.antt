@@ -55,6 +55,7 @@ module _ (the_program the_output : Bytes) (places : List ℕ) where
   reported_located (facts line fs) o c n p (goes u _ h (goes v _ k (goes w _ l (stops _ _ (first i _ x f))))) = sentence_stands false the_program i
   reported_located claim_none o c n p h = absurd (on_stop (inv h))
   reported_located claim_unknown o c n p h = absurd (on_stop (inv h))
+  reported_located (facts line fs) o c n p (goes u _ h (goes v _ k (goes w _ l (goes a _ _ x12)))) = elim x12 [ ]
 
   -- ---- verdicts and claims, whose part is empty at the program's start
 

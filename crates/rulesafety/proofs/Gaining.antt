@@ -7,7 +7,7 @@ use Prim.Native.Nat.{ℕ, zero, suc, ◌+◌, ◌-◌, ◌≤◌, ◌<◌}
 use native.Mathlib.Omega.{arith}
 use lib.Dec.{eqb, ltb}
 use borrow.Author.Tests.{lt-ltb, le-ltb, eq-eqb, ne_eqb, eqb-true, eqb-false, ltb-true, ltb-false}
-use Rattle.meaning.specs.Domain.{unequal, less, at_most, greater, at_least_lem}
+use Rattle.meaning.specs.Domain.{unequal, less, at_most, greater, at_least}
 use Rattle.meaning.specs.Rules.{Term, Side, plain, computed, builtin}
 use Rattle.meaning.specs.Safety.{term_bound, side_bound, when, else, gain_left, gain, next_gain}
 use Rattle.meaning.proofs.Booleans.{and_left, and_right, not_true}
@@ -36,7 +36,7 @@ module _ (B : ℕ → Bool) where
   unfolding comparison_at gain
   no_equation k t e h = rw h (go (eqb k 1) (eqb k 2) (eqb k 3) (eqb k 4))
     where
-      go : (a b c d : Bool) → gain B (builtin (cond a unequal (cond b less (cond c at_most (cond d greater at_least_lem)))) t e) ≡ none
+      go : (a b c d : Bool) → gain B (builtin (cond a unequal (cond b less (cond c at_most (cond d greater at_least)))) t e) ≡ none
       go true b c d = refl
       go false true c d = refl
       go false false true d = refl

@@ -1,7 +1,7 @@
 -- Built-in atoms from the left term on: where they stand.
 use Rattle.std.specs.Prelude.{false, cond, ◌||◌, [], ◌∷◌, ◌++◌, ℕ, eqb}
 use Rattle.std.proofs.Math.Option.{none}
-use Rattle.meaning.specs.Domain.{Comparison, equal, unequal, less, at_most, greater, at_least_lem, Operation, plus, minus, times}
+use Rattle.meaning.specs.Domain.{Comparison, equal, unequal, less, at_most, greater, at_least, Operation, plus, minus, times}
 use Rattle.meaning.specs.Rules.{Term, plain, Literal, builtin, Side}
 use Rattle.meaning.specs.Values.{Value}
 use Rattle.grammar.specs.Tokens.{Sign, comparison}
@@ -22,7 +22,7 @@ comparison_of k =
     (cond (eqb k 16) less
     (cond (eqb k 17) at_most
     (cond (eqb k 18) greater
-    at_least_lem))))
+    at_least))))
 
 -- by the number of the mark's kind: - +, or else *
 unfoldable pub operation_of : ℕ → Operation

@@ -12,7 +12,7 @@ use Rattle.texts.specs.Parts.{part}
 use Rattle.tokens.specs.Tokens.{tokens_from}
 use Rattle.texts.specs.Place.{place_from}
 use Rattle.reading.specs.Reading.{Placed}
-use Rattle.meaning.specs.Domain.{equal, unequal, less, at_most, greater, at_least_lem}
+use Rattle.meaning.specs.Domain.{equal, unequal, less, at_most, greater, at_least}
 use Rattle.meaning.specs.Rules.{Bytes}
 use Rattle.grammar.specs.Tokens.{sign, <>, Symbol, underscore, minus, opening, closing, comma, dot, :-, plus, times, bar, Token, name, variable, string, number, comparison, symbol, stray}
 use Rattle.syntax.specs.declared.token.TokenRead.{TokenRead}
@@ -38,7 +38,7 @@ token_of AlsoUnequal b = comparison <>
 token_of Less b = comparison (sign less)
 token_of AtMost b = comparison (sign at_most)
 token_of Greater b = comparison (sign greater)
-token_of AtLeast b = comparison (sign at_least_lem)
+token_of AtLeast b = comparison (sign at_least)
 token_of End b = stray 0
 token_of Stray b = stray (get_or b 0 0)
 token_of String b = string (between b)

@@ -1,0 +1,12 @@
+-- `read_rules` meets its contract. The invariant: so many rules have been read as far as here and stand in the tables, and what is
+-- remembered is the first case of refusal 5 among their tokens. The measure is how many more rules there may be. Assumes nothing.
+use Prim.Native.Nat.{◌-◌}
+use Rattle.program.proofs.Loop.{Going}
+use borrow.Author.Rules.{rules}
+use Rattle.program.proofs.read_rules.Given as goal
+
+abbrev pub invariant-loop-places : goal.invariant-loop-places
+invariant-loop-places l = Going l.program l.output l.initial.names l.initial.rules l.initial.literals l.unbound l.at l.count l.names l.places l.rules l.literals
+
+abbrev pub decreases-loop-places : goal.decreases-loop-places
+decreases-loop-places l = 257 - l.count
