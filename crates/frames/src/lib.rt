@@ -1,7 +1,9 @@
 // A frame: the words and numbers of its first line, and the bytes behind it.
 #![tactic(auto)]
 
-ghost use Rattle.std.specs.Prelude.{◌≡◌, ◌≤◌};
+ghost use Rattle.std.specs.Prelude.{◌≡◌, ◌<◌, ◌≤◌, [], ◌∷◌, ◌++◌, take, drop, IfOk};
+ghost use Rattle.std.specs.Bool.{OnTrue};
+ghost use Rattle.std.specs.Io.KnownBytes.{Consumes};
 
 use std::io;
 use std::io::{ErrorKind, Read};
@@ -40,7 +42,9 @@ pub struct Number {
     pub next: usize,
 }
 
-fn next_byte(input: &mut impl Read) -> io::Result<Next> {
+fn next_byte<R: Read>(input: &mut R) -> io::Result<Next>
+    ensures { IfOk result (λ next. OnTrue next.found (Consumes (R.remaining input.old) (R.remaining input.new) (next.byte ∷ []))) }
+{
     let mut byte = [0u8; 1];
     let found = read_bytes(input, &mut byte, 1)?;
     Ok(Next {
@@ -50,7 +54,9 @@ fn next_byte(input: &mut impl Read) -> io::Result<Next> {
 }
 
 // Is a newline next?
-pub fn newline(input: &mut impl Read) -> io::Result<bool> {
+pub fn newline<R: Read>(input: &mut R) -> io::Result<bool>
+    ensures { IfOk result (λ is. OnTrue is (Consumes (R.remaining input.old) (R.remaining input.new) (10 ∷ []))) }
+{
     let next = next_byte(input)?;
     if !next.found {
         return Ok(false);
@@ -58,7 +64,9 @@ pub fn newline(input: &mut impl Read) -> io::Result<bool> {
     Ok(next.byte == b'\n')
 }
 
-pub fn read_line(input: &mut impl Read, line: &mut [u8; MOST_LINE]) -> io::Result<Line> {
+pub fn read_line<R: Read>(input: &mut R, line: &mut [u8; MOST_LINE]) -> io::Result<Line>
+    ensures { IfOk result (λ read. 0 < read.len → Consumes (R.remaining input.old) (R.remaining input.new) (take read.len line.new ++ 10 ∷ [])) }
+{
     for len in 0..MOST_LINE {
         let next = next_byte(input)?;
         if !next.found {
@@ -79,7 +87,9 @@ pub fn read_line(input: &mut impl Read, line: &mut [u8; MOST_LINE]) -> io::Resul
 }
 
 // The words of a line of this length.
-pub fn words(line: &[u8; MOST_LINE], len: usize) -> &[u8] {
+pub fn words(line: &[u8; MOST_LINE], len: usize) -> &[u8]
+    ensures { result.now ≡ take len line.now }
+{
     bytes_in(line, span_from(0, len))
 }
 
@@ -159,7 +169,10 @@ pub fn ends_with(line: &[u8], last: Number) -> bool {
 }
 
 // Reads n bytes to the start of a text, for which there is room: whether they all came.
-pub fn read_bytes(input: &mut impl Read, text: &mut [u8], n: usize) -> io::Result<bool> {
+pub fn read_bytes<R: Read>(input: &mut R, text: &mut [u8], n: usize) -> io::Result<bool>
+    ensures all { IfOk result (λ all. OnTrue all (Consumes (R.remaining input.old) (R.remaining input.new) (take n text.new))) }
+    ensures rest { drop n text.new ≡ drop n text.old }
+{
     if text.len() < n {
         return Ok(false);
     }
