@@ -1,9 +1,12 @@
 // A frame: the words and numbers of its first line, and the bytes behind it.
 #![tactic(auto)]
 
-ghost use Rattle.std.specs.Prelude.{◌≡◌, ◌≤◌};
+ghost use Rattle.std.specs.Prelude.{◌≡◌, ◌<◌, ◌≤◌, [], ◌∷◌, ◌++◌, take, drop, IfOk};
+ghost use Rattle.std.specs.Bool.{OnTrue};
+ghost use Rattle.std.specs.Io.KnownBytes.{Consumes};
 
-use libc::STDIN_FILENO;
+use std::io;
+use std::io::{ErrorKind, Read};
 use texts::parts::bytes_in;
 use texts::place::span_from;
 
@@ -39,48 +42,54 @@ pub struct Number {
     pub next: usize,
 }
 
-fn next_byte() -> Next {
+fn next_byte<R: Read>(input: &mut R) -> io::Result<Next>
+    ensures { IfOk result (λ next. OnTrue next.found (Consumes (R.remaining input.old) (R.remaining input.new) (next.byte ∷ []))) }
+{
     let mut byte = [0u8; 1];
-    let got = io::read_full(STDIN_FILENO, &mut byte);
-    Next {
-        found: got == 1,
+    let found = read_bytes(input, &mut byte, 1)?;
+    Ok(Next {
+        found,
         byte: byte[0],
-    }
+    })
 }
 
 // Is a newline next?
-pub fn newline() -> bool {
-    let next = next_byte();
+pub fn newline<R: Read>(input: &mut R) -> io::Result<bool>
+    ensures { IfOk result (λ is. OnTrue is (Consumes (R.remaining input.old) (R.remaining input.new) (10 ∷ []))) }
+{
+    let next = next_byte(input)?;
     if !next.found {
-        return false;
+        return Ok(false);
     }
-    next.byte == b'\n'
+    Ok(next.byte == b'\n')
 }
 
-pub fn read_line(line: &mut [u8; MOST_LINE]) -> Line {
-    let mut len = 0;
-    while len < MOST_LINE {
-        let next = next_byte();
+pub fn read_line<R: Read>(input: &mut R, line: &mut [u8; MOST_LINE]) -> io::Result<Line>
+    ensures { IfOk result (λ read. 0 < read.len → Consumes (R.remaining input.old) (R.remaining input.new) (take read.len line.new ++ 10 ∷ [])) }
+{
+    for len in 0..MOST_LINE {
+        let next = next_byte(input)?;
         if !next.found {
-            return Line {
+            return Ok(Line {
                 ended: len == 0,
                 len: 0,
-            };
+            });
         }
         if next.byte == b'\n' {
-            return Line { ended: false, len };
+            return Ok(Line { ended: false, len });
         }
         line[len] = next.byte;
-        len += 1;
     }
-    Line {
+    Ok(Line {
         ended: false,
         len: 0,
-    }
+    })
 }
 
 // The words of a line of this length.
-pub fn words(line: &[u8; MOST_LINE], len: usize) -> &[u8] {
+pub fn words(line: &[u8; MOST_LINE], len: usize) -> &[u8]
+    ensures { result.now ≡ take len line.now }
+{
     bytes_in(line, span_from(0, len))
 }
 
@@ -160,9 +169,16 @@ pub fn ends_with(line: &[u8], last: Number) -> bool {
 }
 
 // Reads n bytes to the start of a text, for which there is room: whether they all came.
-pub fn read_bytes(text: &mut [u8], n: usize) -> bool {
+pub fn read_bytes<R: Read>(input: &mut R, text: &mut [u8], n: usize) -> io::Result<bool>
+    ensures all { IfOk result (λ all. OnTrue all (Consumes (R.remaining input.old) (R.remaining input.new) (take n text.new))) }
+    ensures rest { drop n text.new ≡ drop n text.old }
+{
     if text.len() < n {
-        return false;
+        return Ok(false);
     }
-    io::read_full(STDIN_FILENO, &mut text[0..n]) == n
+    match input.read_exact(&mut text[0..n]) {
+        Ok(()) => Ok(true),
+        Err(error) if error.kind() == ErrorKind::UnexpectedEof => Ok(false),
+        Err(error) => Err(error),
+    }
 }

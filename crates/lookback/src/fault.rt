@@ -1,9 +1,12 @@
 // What a person is told of a refusal: one line on standard error, FILE:LINE:COLUMN: refusal N: and what is wrong, which an editor can jump to.
-use crate::files::{OUTPUT, PROGRAM};
+use crate::files::{OUTPUT, PROGRAM, argument, argument_room};
 use crate::tell::{number, quoted, say, size};
 use crate::{misplaced, quote};
 use fields::answer::{Answer, Text};
 use plain::Written;
+use std::io;
+use std::io::Write;
+use std::rt::Env;
 use texts::parts::{part, same_bytes};
 use texts::place::Place;
 use texts::sizes::{
@@ -12,52 +15,61 @@ use texts::sizes::{
 };
 
 // The file as its argument names it, the place in it, and the refusal's number.
-fn head(argument: usize, place: Place, refusal: u8) {
-    let mut file = io::buffer();
-    let n = os::arg(argument, &mut file);
-    say(&file[..n]);
-    say(b":");
-    number(place.line as u64);
-    say(b":");
-    number(place.column as u64);
-    say(b": refusal ");
-    number(refusal as u64);
-    say(b": ");
+fn head(
+    rt: &impl Env,
+    err: &mut impl Write,
+    file: usize,
+    place: Place,
+    refusal: u8,
+) -> io::Result<()> {
+    let mut name = argument_room();
+    say(err, argument(rt, file, &mut name).unwrap_or(b""))?;
+    say(err, b":")?;
+    number(err, place.line as u64)?;
+    say(err, b":")?;
+    number(err, place.column as u64)?;
+    say(err, b": refusal ")?;
+    number(err, refusal as u64)?;
+    say(err, b": ")
 }
 
 // A size between words.
-fn most(before: &[u8], count: usize, behind: &[u8]) {
-    say(before);
-    size(count as u64);
-    say(behind);
+fn most(err: &mut impl Write, before: &[u8], count: usize, behind: &[u8]) -> io::Result<()> {
+    say(err, before)?;
+    size(err, count as u64)?;
+    say(err, behind)
 }
 
-fn long_text(text: &[u8]) {
-    say(text);
-    most(b" has more than ", MOST_TEXT, b" bytes");
+fn long_text(err: &mut impl Write, text: &[u8]) -> io::Result<()> {
+    say(err, text)?;
+    most(err, b" has more than ", MOST_TEXT, b" bytes")
 }
 
 // The first token of a program that can't stand where it does, or the program's end.
-fn not_of_rules(token: &[u8]) {
+fn not_of_rules(err: &mut impl Write, token: &[u8]) -> io::Result<()> {
     if token.len() == 0 {
-        return say(b"the program ends where its last rule needs more; a rule ends with a dot");
+        return say(
+            err,
+            b"the program ends where its last rule needs more; a rule ends with a dot",
+        );
     }
-    quoted(token);
-    say(b" can't stand here");
+    quoted(err, token)?;
+    say(err, b" can't stand here")?;
     // A program's only `%` that starts no comment.
     if same_bytes(token, b"%") {
-        say(b": no comment starts with %*");
+        say(err, b": no comment starts with %*")?;
     }
     if quote::is_alone(token) {
-        quote::opens_none();
+        quote::opens_none(err)?;
     }
+    Ok(())
 }
 
-fn large_number(token: &[u8]) {
-    say(b"the number ");
-    quoted(token);
-    say(b" is over ");
-    size(MOST_NUMBER);
+fn large_number(err: &mut impl Write, token: &[u8]) -> io::Result<()> {
+    say(err, b"the number ")?;
+    quoted(err, token)?;
+    say(err, b" is over ")?;
+    size(err, MOST_NUMBER)
 }
 
 // Is it a name, a variable or a string that has too many bytes?
@@ -68,151 +80,190 @@ fn is_long(token: &[u8]) -> bool {
     MOST_NAME < token.len()
 }
 
-fn long(token: &[u8]) {
-    quoted(token);
+fn long(err: &mut impl Write, token: &[u8]) -> io::Result<()> {
+    quoted(err, token)?;
     if quote::starts(token) {
-        return most(b" has more than ", MOST_NAME, b" bytes between its quotes");
+        return most(
+            err,
+            b" has more than ",
+            MOST_NAME,
+            b" bytes between its quotes",
+        );
     }
     most(
+        err,
         b" is longer than ",
         MOST_NAME,
         b" bytes, the most that a name or a variable has",
-    );
+    )
 }
 
 // What starts with this token is one too many; either text has atoms.
-fn too_many(token: &[u8]) {
-    say(b"one too many starts at ");
-    quoted(token);
-    most(b": an atom has at most ", MOST_ARGUMENTS, b" arguments");
-}
-
-fn program_size(token: &[u8]) {
-    if is_long(token) {
-        return long(token);
-    }
-    too_many(token);
-    most(b", a head ", MOST_HEADS, b" atoms");
-    most(b", a body ", MOST_LITERALS, b" literals");
-    most(b", a rule ", MOST_VARIABLES, b" variables");
-    most(b", a program ", MOST_RULES, b" rules");
-}
-
-fn facts_size(token: &[u8]) {
-    if is_long(token) {
-        return long(token);
-    }
-    too_many(token);
-    most(b", the facts line ", MOST_FACTS, b" facts");
-}
-
-fn unbound(variable: &[u8]) {
-    say(b"the variable ");
-    quoted(variable);
-    say(b" is not bound: neither by an atom behind :- without not, nor by an equation");
-}
-
-fn out_of_range(rule: &[u8]) {
-    say(b"arithmetic leaves the range -");
-    size(MOST_NUMBER);
-    say(b" to ");
-    size(MOST_NUMBER);
-    say(b" in the rule ");
-    quoted(rule);
-}
-
-fn repeated(fact: &[u8]) {
-    say(b"the fact ");
-    quoted(fact);
-    say(b" repeats an earlier one");
-}
-
-fn opposite(fact: &[u8]) {
-    say(b"the fact ");
-    quoted(fact);
-    say(b" and an earlier one differ only in sign");
-}
-
-fn disagree() {
-    say(
-        b"the solver's code and its report disagree: 10 goes with ANSWER, 20 with INCONSISTENT, 1 with UNKNOWN",
-    );
-}
-
-fn many_facts() {
+fn too_many(err: &mut impl Write, token: &[u8]) -> io::Result<()> {
+    say(err, b"one too many starts at ")?;
+    quoted(err, token)?;
     most(
+        err,
+        b": an atom has at most ",
+        MOST_ARGUMENTS,
+        b" arguments",
+    )
+}
+
+fn program_size(err: &mut impl Write, token: &[u8]) -> io::Result<()> {
+    if is_long(token) {
+        return long(err, token);
+    }
+    too_many(err, token)?;
+    most(err, b", a head ", MOST_HEADS, b" atoms")?;
+    most(err, b", a body ", MOST_LITERALS, b" literals")?;
+    most(err, b", a rule ", MOST_VARIABLES, b" variables")?;
+    most(err, b", a program ", MOST_RULES, b" rules")
+}
+
+fn facts_size(err: &mut impl Write, token: &[u8]) -> io::Result<()> {
+    if is_long(token) {
+        return long(err, token);
+    }
+    too_many(err, token)?;
+    most(err, b", the facts line ", MOST_FACTS, b" facts")
+}
+
+fn unbound(err: &mut impl Write, variable: &[u8]) -> io::Result<()> {
+    say(err, b"the variable ")?;
+    quoted(err, variable)?;
+    say(
+        err,
+        b" is not bound: neither by an atom behind :- without not, nor by an equation",
+    )
+}
+
+fn out_of_range(err: &mut impl Write, rule: &[u8]) -> io::Result<()> {
+    say(err, b"arithmetic leaves the range -")?;
+    size(err, MOST_NUMBER)?;
+    say(err, b" to ")?;
+    size(err, MOST_NUMBER)?;
+    say(err, b" in the rule ")?;
+    quoted(err, rule)
+}
+
+fn repeated(err: &mut impl Write, fact: &[u8]) -> io::Result<()> {
+    say(err, b"the fact ")?;
+    quoted(err, fact)?;
+    say(err, b" repeats an earlier one")
+}
+
+fn opposite(err: &mut impl Write, fact: &[u8]) -> io::Result<()> {
+    say(err, b"the fact ")?;
+    quoted(err, fact)?;
+    say(err, b" and an earlier one differ only in sign")
+}
+
+fn disagree(err: &mut impl Write) -> io::Result<()> {
+    say(
+        err,
+        b"the solver's code and its report disagree: 10 goes with ANSWER, 20 with INCONSISTENT, 1 with UNKNOWN",
+    )
+}
+
+fn many_facts(err: &mut impl Write) -> io::Result<()> {
+    most(
+        err,
         b"the facts line has more than ",
         MOST_TESTED_FACTS,
         b" facts, the most that may stand beside a rule with several heads",
-    );
+    )
 }
 
-fn short() {
-    say(b"a lent buffer is too short");
+fn short(err: &mut impl Write) -> io::Result<()> {
+    say(err, b"a lent buffer is too short")
 }
 
 // What is wrong with a part of the program. No other number is given for one.
-fn program_words(shown: &[u8], refusal: u8) {
+fn program_words(err: &mut impl Write, shown: &[u8], refusal: u8) -> io::Result<()> {
     match refusal {
-        1 => long_text(b"the program"),
-        2 => not_of_rules(shown),
-        3 => large_number(shown),
-        4 => program_size(shown),
-        5 => unbound(shown),
-        8 => out_of_range(shown),
-        9 => short(),
-        _ => {}
+        1 => long_text(err, b"the program"),
+        2 => not_of_rules(err, shown),
+        3 => large_number(err, shown),
+        4 => program_size(err, shown),
+        5 => unbound(err, shown),
+        8 => out_of_range(err, shown),
+        9 => short(err),
+        _ => Ok(())
     }
 }
 
 // What is wrong with a part of the output. No other number is given for one.
-fn output_words(output: &[u8], place: Place, refusal: u8) {
+fn output_words(err: &mut impl Write, output: &[u8], place: Place, refusal: u8) -> io::Result<()> {
     let shown = part(output, place);
     match refusal {
-        1 => long_text(b"the output"),
-        2 => misplaced::words(output, place),
-        3 => large_number(shown),
-        4 => facts_size(shown),
-        6 => repeated(shown),
-        7 => opposite(shown),
-        9 => short(),
-        10 => disagree(),
-        12 => many_facts(),
-        _ => {}
+        1 => long_text(err, b"the output"),
+        2 => misplaced::words(err, output, place),
+        3 => large_number(err, shown),
+        4 => facts_size(err, shown),
+        6 => repeated(err, shown),
+        7 => opposite(err, shown),
+        9 => short(err),
+        10 => disagree(err),
+        12 => many_facts(err),
+        _ => Ok(())
     }
 }
 
-fn of_program(program: &[u8], place: Place, refusal: u8) {
-    head(PROGRAM, place, refusal);
-    program_words(part(program, place), refusal);
-    say(b"\n");
+fn of_program(
+    rt: &impl Env,
+    err: &mut impl Write,
+    program: &[u8],
+    place: Place,
+    refusal: u8,
+) -> io::Result<()> {
+    head(rt, err, PROGRAM, place, refusal)?;
+    program_words(err, part(program, place), refusal)?;
+    say(err, b"\n")
 }
 
-fn of_output(output: &[u8], place: Place, refusal: u8) {
-    head(OUTPUT, place, refusal);
-    output_words(output, place, refusal);
-    say(b"\n");
+fn of_output(
+    rt: &impl Env,
+    err: &mut impl Write,
+    output: &[u8],
+    place: Place,
+    refusal: u8,
+) -> io::Result<()> {
+    head(rt, err, OUTPUT, place, refusal)?;
+    output_words(err, output, place, refusal)?;
+    say(err, b"\n")
 }
 
 // The line of a refusal of the check. A verdict has the number 0, and no line.
-pub fn of_check(program: &[u8], output: &[u8], answer: Answer) {
+pub fn of_check(
+    rt: &impl Env,
+    err: &mut impl Write,
+    program: &[u8],
+    output: &[u8],
+    answer: Answer,
+) -> io::Result<()> {
     if answer.number == 0 {
-        return;
+        return Ok(());
     }
     let handed = answer.part;
     let place = handed.place;
     let text = handed.text;
     match text {
-        Text::Program => of_program(program, place, answer.number),
-        Text::Output => of_output(output, place, answer.number),
+        Text::Program => of_program(rt, err, program, place, answer.number),
+        Text::Output => of_output(rt, err, output, place, answer.number),
     }
 }
 
 // The line of a refusal of the writer. A plain form that is written has none.
-pub fn of_writer(program: &[u8], written: Written) {
+pub fn of_writer(
+    rt: &impl Env,
+    err: &mut impl Write,
+    program: &[u8],
+    written: Written,
+) -> io::Result<()> {
     if written.code == 0 {
-        return;
+        return Ok(());
     }
     let place = written.place;
-    of_program(program, place, written.code);
+    of_program(rt, err, program, place, written.code)
 }

@@ -1,4 +1,8 @@
 // The program's arguments, and the files that they name.
+use std::alloc::Global;
+use std::io::{ErrorKind, Read, Write};
+use std::rt::{Env, Files};
+use std::{io, str};
 use texts::parts::same_bytes;
 
 // The argument that says what is asked for.
@@ -14,52 +18,116 @@ pub const CODE: usize = 4;
 // Room for one byte more than a text may have, so that a longer file is too long here as well.
 const ROOM: usize = 65537;
 
+// Room for an argument. It holds any path.
+const MOST_PATH: usize = 4096;
+
 // An argument that is no number. No code of a solver is as large.
 pub const NO_NUMBER: u64 = u64::MAX;
+
+// What an output is read from.
+#[derive(Drop)]
+pub enum Source<F> {
+    File(F),
+    Stdin,
+}
 
 pub fn space() -> [u8; ROOM] {
     [0; ROOM]
 }
 
-pub fn usage() {
-    io::write_all(
-        libc::STDERR_FILENO,
-        b"usage: lookback check PROGRAM OUTPUT CODE\n       lookback plain PROGRAM\n",
-    );
+pub fn argument_room() -> [u8; MOST_PATH] {
+    [0; MOST_PATH]
 }
 
-// The open file, or -1 where it can't be opened, which is said.
-fn open(path: &[u8]) -> i32 {
-    let file = os::open_read(path);
-    if file < 0 {
-        os::fail(path);
-    }
-    file
+pub fn usage(err: &mut impl Write) -> io::Result<()> {
+    err.write_all(b"usage: lookback check PROGRAM OUTPUT CODE\n       lookback plain PROGRAM\n")
 }
 
-// Opens the file that argument i names, or says why it can't and answers -1.
-pub fn open_argument(i: usize) -> i32 {
-    let mut path = io::buffer();
-    let n = os::arg(i, &mut path);
-    if os::errno() != 0 {
-        usage();
-        return -1;
+// Argument i, whatever its bytes; there is none where it is missing, or longer than the room.
+pub fn argument<'a>(rt: &impl Env, i: usize, room: &'a mut [u8; MOST_PATH]) -> Option<&'a [u8]> {
+    match rt.arg(i, room) {
+        Ok(n) => Some(&room[..n]),
+        Err(_) => None,
     }
-    open(&path[..n])
+}
+
+// Says of a file why it can't be opened.
+fn fail(err: &mut impl Write, path: &[u8], error: &io::Error) -> io::Result<()> {
+    err.write_all(path)?;
+    writeln!(err, ": {error}")
+}
+
+// The file of this name. A name that is not UTF-8 opens none.
+fn open_named<R: Files>(rt: &R, path: &[u8]) -> io::Result<R::File> {
+    match str::from_utf8(path) {
+        Ok(name) => std::fs::open(rt, name),
+        Err(_) => Err(io::Error::new(ErrorKind::InvalidInput, "the file's name is not UTF-8")),
+    }
+}
+
+// The open file, or none where it can't be opened, which is said.
+fn open<R: Files>(rt: &R, err: &mut impl Write, path: &[u8]) -> io::Result<Option<R::File>> {
+    match open_named(rt, path) {
+        Ok(file) => Ok(Some(file)),
+        Err(error) => {
+            fail(err, path, &error)?;
+            Ok(None)
+        }
+    }
+}
+
+// Opens the file that argument i names, or says why it can't and answers none.
+pub fn open_argument<R: Files + Env>(
+    rt: &R,
+    err: &mut impl Write,
+    i: usize,
+) -> io::Result<Option<R::File>> {
+    let mut room = argument_room();
+    match argument(rt, i, &mut room) {
+        Some(path) => open(rt, err, path),
+        None => {
+            usage(err)?;
+            Ok(None)
+        }
+    }
 }
 
 // The same, where `-` names standard input.
-pub fn open_output(i: usize) -> i32 {
-    let mut path = io::buffer();
-    let n = os::arg(i, &mut path);
-    if os::errno() != 0 {
-        usage();
-        return -1;
+pub fn open_output<R: Files + Env>(
+    rt: &R,
+    err: &mut impl Write,
+    i: usize,
+) -> io::Result<Option<Source<R::File>>> {
+    let mut room = argument_room();
+    match argument(rt, i, &mut room) {
+        Some(path) if same_bytes(path, b"-") => Ok(Some(Source::Stdin)),
+        Some(path) => match open(rt, err, path)? {
+            Some(file) => Ok(Some(Source::File(file))),
+            None => Ok(None),
+        },
+        None => {
+            usage(err)?;
+            Ok(None)
+        }
     }
-    if same_bytes(&path[..n], b"-") {
-        return libc::STDIN_FILENO;
+}
+
+// What an open file holds, up to one byte more than a text may have.
+pub fn read_text<R: Read + Drop>(alloc: Global, input: R) -> io::Result<Vec<u8>> {
+    let mut text = Vec::new(alloc);
+    input.take(ROOM as u64).read_to_end(&mut text)?;
+    Ok(text)
+}
+
+// The same of an output.
+pub fn read_output<R: Files + Input + AllocGlobal>(
+    rt: &R,
+    output: Source<R::File>,
+) -> io::Result<Vec<u8>> {
+    match output {
+        Source::File(file) => read_text(rt.alloc(), file),
+        Source::Stdin => read_text(rt.alloc(), rt.reader()),
     }
-    open(&path[..n])
 }
 
 fn is_digits(text: &[u8]) -> bool {
@@ -72,11 +140,11 @@ fn is_digits(text: &[u8]) -> bool {
 }
 
 // The number that argument i spells, or one that is over its size where it is that large; `NO_NUMBER` where it spells none.
-pub fn number_argument(i: usize) -> u64 {
-    let mut text = io::buffer();
-    let n = os::arg(i, &mut text);
-    if !is_digits(&text[..n]) {
+pub fn number_argument(rt: &impl Env, i: usize) -> u64 {
+    let mut room = argument_room();
+    let text = argument(rt, i, &mut room).unwrap_or(b"");
+    if !is_digits(text) {
         return NO_NUMBER;
     }
-    lexis::number::value(&text[..n])
+    lexis::number::value(text)
 }

@@ -3,7 +3,10 @@
 // goes wrong with an argument or a file is said there too, and then nothing is printed.
 #![tactic(auto)]
 
-use files::{CODE, OUTPUT, PROGRAM, WORD};
+use files::{CODE, OUTPUT, PROGRAM, Source, WORD};
+use std::io;
+use std::io::{BufWriter, Write};
+use std::rt::{Env, Files};
 use texts::parts::same_bytes;
 
 mod fault;
@@ -20,65 +23,100 @@ fn places() -> [u16; PLACES] {
     [0; PLACES]
 }
 
-// The answer for two texts and a code.
-fn check<'a>(program: &'a [u8], output: &'a [u8], code: u64) {
+// The answer for two texts and a code. What is printed is out before a refusal is told of.
+fn check<'a>(
+    rt: &impl Env,
+    out: &mut impl Write,
+    err: &mut impl Write,
+    program: &'a [u8],
+    output: &'a [u8],
+    code: u64,
+) -> io::Result<()> {
     let mut rounds = places();
     let answer = checker::check(program, output, code, &mut rounds);
-    print::answer(answer);
-    fault::of_check(program, output, answer);
+    print::answer(out, answer)?;
+    out.flush()?;
+    fault::of_check(rt, err, program, output, answer)
 }
 
 // The answer for two open files and a code.
-fn check_files(program: i32, output: i32, code: u64) {
-    let mut text = files::space();
-    let mut reported = files::space();
-    let n = io::read_full(program, &mut text);
-    let m = io::read_full(output, &mut reported);
-    check(&text[..n], &reported[..m], code);
+fn check_files<R: Env + Files + Input + AllocGlobal>(
+    rt: &R,
+    out: &mut impl Write,
+    err: &mut impl Write,
+    program: R::File,
+    output: Source<R::File>,
+    code: u64,
+) -> io::Result<()> {
+    let text = files::read_text(rt.alloc(), program)?;
+    let reported = files::read_output(rt, output)?;
+    check(rt, out, err, text.as_slice(), reported.as_slice(), code)
 }
 
-fn check_arguments() {
-    let code = files::number_argument(CODE);
+fn check_arguments<R: Env + Files + Input + AllocGlobal>(
+    rt: &R,
+    out: &mut impl Write,
+    err: &mut impl Write,
+) -> io::Result<()> {
+    let code = files::number_argument(rt, CODE);
     if code == files::NO_NUMBER {
-        return files::usage();
+        return files::usage(err);
     }
-    let program = files::open_argument(PROGRAM);
-    if program < 0 {
-        return;
-    }
-    let output = files::open_output(OUTPUT);
-    if output < 0 {
-        return;
-    }
-    check_files(program, output, code);
+    let Some(program) = files::open_argument(rt, err, PROGRAM)? else {
+        return Ok(());
+    };
+    let Some(output) = files::open_output(rt, err, OUTPUT)? else {
+        return Ok(());
+    };
+    check_files(rt, out, err, program, output, code)
 }
 
-// The plain form of a text.
-fn write(program: &[u8]) {
+// The plain form of a text. What is printed is out before a refusal is told of.
+fn write(
+    rt: &impl Env,
+    out: &mut impl Write,
+    err: &mut impl Write,
+    program: &[u8],
+) -> io::Result<()> {
     let mut buffer = files::space();
     let written = plain::write_plain(program, &mut buffer);
-    print::plain(written, &buffer);
-    fault::of_writer(program, written);
+    print::plain(out, written, &buffer)?;
+    out.flush()?;
+    fault::of_writer(rt, err, program, written)
 }
 
-fn plain_arguments() {
-    let program = files::open_argument(PROGRAM);
-    if program < 0 {
-        return;
-    }
-    let mut text = files::space();
-    let n = io::read_full(program, &mut text);
-    write(&text[..n]);
+fn plain_arguments<R: Env + Files + AllocGlobal>(
+    rt: &R,
+    out: &mut impl Write,
+    err: &mut impl Write,
+) -> io::Result<()> {
+    let Some(program) = files::open_argument(rt, err, PROGRAM)? else {
+        return Ok(());
+    };
+    let text = files::read_text(rt.alloc(), program)?;
+    write(rt, out, err, text.as_slice())
 }
 
-fn main() {
-    let mut word = io::buffer();
-    let n = os::arg(WORD, &mut word);
-    if same_bytes(&word[..n], b"check") {
-        return check_arguments();
+// What the first argument asks for.
+fn run<R: Env + Files + Input + AllocGlobal>(
+    rt: &R,
+    out: &mut impl Write,
+    err: &mut impl Write,
+) -> io::Result<()> {
+    let mut room = files::argument_room();
+    let word = files::argument(rt, WORD, &mut room).unwrap_or(b"");
+    if same_bytes(word, b"check") {
+        return check_arguments(rt, out, err);
     }
-    if same_bytes(&word[..n], b"plain") {
-        return plain_arguments();
+    if same_bytes(word, b"plain") {
+        return plain_arguments(rt, out, err);
     }
-    files::usage();
+    files::usage(err)
+}
+
+fn main(rt: HostRuntime) -> io::Result<()> {
+    let mut out = BufWriter::new(rt.alloc(), rt.stdout())?;
+    let mut err = BufWriter::new(rt.alloc(), rt.stderr())?;
+    run(&rt, &mut out, &mut err)?;
+    err.flush()
 }

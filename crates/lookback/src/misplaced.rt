@@ -3,6 +3,8 @@
 use crate::quote;
 use crate::tell::{quoted, say};
 use report::word::starts_with;
+use std::io;
+use std::io::Write;
 use texts::parts::{bytes_in, part};
 use texts::place::{Place, span_from};
 
@@ -13,12 +15,10 @@ fn last_line(text: &[u8]) -> &[u8] {
         return text;
     }
     // The last byte is the line's, be it its newline.
-    let mut start = length - 1;
-    while 0 < start {
+    for start in (1..length).rev() {
         if text[start - 1] == b'\n' {
             return &text[start..];
         }
-        start -= 1;
     }
     text
 }
@@ -38,42 +38,55 @@ fn is_answer(line: &[u8]) -> bool {
 }
 
 // What is missing behind this line.
-fn missing(line: &[u8]) {
+fn missing(err: &mut impl Write, line: &[u8]) -> io::Result<()> {
     if is_idle(line) {
         return say(
+            err,
             b"the output ends where a report is needed, a line that starts with ANSWER, INCONSISTENT or UNKNOWN",
         );
     }
     if is_answer(line) {
-        return say(b"the output ends where the facts line is needed, the one behind ANSWER");
+        return say(
+            err,
+            b"the output ends where the facts line is needed, the one behind ANSWER",
+        );
     }
-    say(b"the facts line ends where its last fact needs more; a fact ends with a dot");
+    say(
+        err,
+        b"the facts line ends where its last fact needs more; a fact ends with a dot",
+    )
 }
 
-fn out_of_place(line: &[u8]) {
-    say(b"the line ");
-    quoted(line);
-    say(b" is out of place: around the report stand only empty lines and lines that start with %");
+fn out_of_place(err: &mut impl Write, line: &[u8]) -> io::Result<()> {
+    say(err, b"the line ")?;
+    quoted(err, line)?;
+    say(
+        err,
+        b" is out of place: around the report stand only empty lines and lines that start with %",
+    )
 }
 
-fn not_of_facts(token: &[u8]) {
-    quoted(token);
-    say(b" can't stand here");
+fn not_of_facts(err: &mut impl Write, token: &[u8]) -> io::Result<()> {
+    quoted(err, token)?;
+    say(err, b" can't stand here")?;
     if quote::is_alone(token) {
-        return quote::opens_none();
+        return quote::opens_none(err);
     }
-    say(b": the facts line has atoms without variables, each with its dot, and no comment");
+    say(
+        err,
+        b": the facts line has atoms without variables, each with its dot, and no comment",
+    )
 }
 
 // What is missing or can't stand at a place of the output.
-pub fn words(output: &[u8], place: Place) {
+pub fn words(err: &mut impl Write, output: &[u8], place: Place) -> io::Result<()> {
     let line = last_line(bytes_in(output, span_from(0, place.start)));
     if place.len == 0 {
-        return missing(line);
+        return missing(err, line);
     }
     // A line out of place is a whole one. The facts line, on which a token may be the first as well, has ANSWER before it.
     if place.column == 1 && !is_answer(line) {
-        return out_of_place(part(output, place));
+        return out_of_place(err, part(output, place));
     }
-    not_of_facts(part(output, place));
+    not_of_facts(err, part(output, place))
 }

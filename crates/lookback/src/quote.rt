@@ -1,5 +1,7 @@
 // Quotes: which tokens start with one, and what is told of one that opens no string.
 use crate::tell::say;
+use std::io;
+use std::io::Write;
 use texts::parts::same_bytes;
 
 // Is the token a string, or a quote alone?
@@ -15,8 +17,9 @@ pub fn is_alone(token: &[u8]) -> bool {
     same_bytes(token, b"\"")
 }
 
-pub fn opens_none() {
+pub fn opens_none(err: &mut impl Write) -> io::Result<()> {
     say(
+        err,
         b": it opens no string; a string ends on its line, and in it a backslash stands before a quote only",
-    );
+    )
 }

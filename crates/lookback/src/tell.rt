@@ -1,5 +1,6 @@
 // Standard error: words, numbers, sizes as the paper writes them, and bytes of a text shown so that any terminal takes them as one line.
-use libc::STDERR_FILENO;
+use std::io;
+use std::io::{Cursor, Write};
 use texts::parts::least;
 
 // The most bytes of a part that are shown.
@@ -8,73 +9,75 @@ const MOST_SHOWN: usize = 60;
 // The digits of the greatest number of 64 bits.
 const MOST_DIGITS: usize = 20;
 
-pub fn say(words: &[u8]) {
-    io::write_all(STDERR_FILENO, words);
+pub fn say(err: &mut impl Write, words: &[u8]) -> io::Result<()> {
+    err.write_all(words)
 }
 
-pub fn number(n: u64) {
-    io::print_decimal(STDERR_FILENO, n);
+pub fn number(err: &mut impl Write, n: u64) -> io::Result<()> {
+    write!(err, "{n}")
 }
 
-fn one(byte: u8) {
+fn one(err: &mut impl Write, byte: u8) -> io::Result<()> {
     let bytes = [byte];
-    say(&bytes);
+    say(err, &bytes)
 }
 
 // A digit, and a comma where the digits behind it are threes. `left` counts it and those.
-fn digit(byte: u8, left: usize) {
-    one(byte);
+fn digit(err: &mut impl Write, byte: u8, left: usize) -> io::Result<()> {
+    one(err, byte)?;
     if 1 < left && left % 3 == 1 {
-        say(b",");
+        say(err, b",")?;
     }
+    Ok(())
 }
 
-fn in_threes(digits: &[u8; MOST_DIGITS], count: usize) {
+fn in_threes(err: &mut impl Write, digits: &[u8; MOST_DIGITS], count: usize) -> io::Result<()> {
     for at in 0usize..MOST_DIGITS {
         if at < count {
-            digit(digits[at], count - at);
+            digit(err, digits[at], count - at)?;
         }
     }
+    Ok(())
 }
 
 // A size with a comma before each three of its digits: 65,536.
-pub fn size(n: u64) {
-    let mut digits = [0u8; MOST_DIGITS];
-    let count = io::decimal(n, &mut digits);
-    in_threes(&digits, count);
+pub fn size(err: &mut impl Write, n: u64) -> io::Result<()> {
+    let mut digits = Cursor::new([0u8; MOST_DIGITS]);
+    write!(digits, "{n}")?;
+    let count = digits.position() as usize;
+    in_threes(err, digits.get_ref(), count)
 }
 
-fn hex(byte: u8) {
-    say(b"\\x");
-    io::print_hex(STDERR_FILENO, byte as u64, 2);
+fn hex(err: &mut impl Write, byte: u8) -> io::Result<()> {
+    say(err, b"\\x")?;
+    write!(err, "{byte:02x}")
 }
 
 // A byte as it is where it is printable ASCII. Any other could end the line, or move the cursor of a terminal.
-fn shown(byte: u8) {
+fn shown(err: &mut impl Write, byte: u8) -> io::Result<()> {
     match byte {
-        b'\n' => say(b"\\n"),
-        b'\t' => say(b"\\t"),
-        b'\r' => say(b"\\r"),
-        b' '..=b'~' => one(byte),
-        _ => hex(byte),
+        b'\n' => say(err, b"\\n"),
+        b'\t' => say(err, b"\\t"),
+        b'\r' => say(err, b"\\r"),
+        b' '..=b'~' => one(err, byte),
+        _ => hex(err, byte),
     }
 }
 
-fn first_shown(bytes: &[u8]) {
+fn first_shown(err: &mut impl Write, bytes: &[u8]) -> io::Result<()> {
     let count = least(bytes.len(), MOST_SHOWN);
-    let mut at = 0;
-    while at < count {
-        shown(bytes[at]);
-        at += 1;
+    for at in 0..count {
+        shown(err, bytes[at])?;
     }
+    Ok(())
 }
 
 // The bytes between backquotes; of many the first, and two dots.
-pub fn quoted(bytes: &[u8]) {
-    say(b"`");
-    first_shown(bytes);
+pub fn quoted(err: &mut impl Write, bytes: &[u8]) -> io::Result<()> {
+    say(err, b"`")?;
+    first_shown(err, bytes)?;
     if MOST_SHOWN < bytes.len() {
-        say(b"..");
+        say(err, b"..")?;
     }
-    say(b"`");
+    say(err, b"`")
 }

@@ -3,17 +3,19 @@ use crate::places::is_kept;
 use crate::print::{ending, number, place, refused, say};
 use derived_set::{Derived, PLACES};
 use fields::answer::{Answer, Kind, Part, Text};
+use std::io;
+use std::io::Write;
 use texts::parts::least;
 use texts::sizes::MOST_LITERALS;
 
 // A blank and a number of a list.
-fn item(n: u64) {
-    say(b" ");
-    number(n);
+fn item(out: &mut impl Write, n: u64) -> io::Result<()> {
+    say(out, b" ")?;
+    number(out, n)
 }
 
-fn round(n: u16) {
-    item(n as u64);
+fn round(out: &mut impl Write, n: u16) -> io::Result<()> {
+    item(out, n as u64)
 }
 
 // How many places an acceptance writes: one for each atom, and none where no rounds are given.
@@ -25,101 +27,111 @@ fn rounds_written(answer: Answer) -> usize {
 }
 
 // The first places, as many as are written.
-fn each(places: &[u16], written: usize) {
+fn each(out: &mut impl Write, places: &[u16], written: usize) -> io::Result<()> {
     let count = least(written, places.len());
-    let mut at = 0;
-    while at < count {
-        round(places[at]);
-        at += 1;
+    for at in 0..count {
+        round(out, places[at])?;
     }
+    Ok(())
 }
 
-fn first_positions(positions: [u64; MOST_LITERALS], count: usize) {
+fn first_positions(
+    out: &mut impl Write,
+    positions: [u64; MOST_LITERALS],
+    count: usize,
+) -> io::Result<()> {
     for at in 0usize..MOST_LITERALS {
         if at < count {
-            item(positions[at]);
+            item(out, positions[at])?;
         }
     }
+    Ok(())
 }
 
 // The set's atoms, by their positions from 1.
-fn members(kept: Derived) {
+fn members(out: &mut impl Write, kept: Derived) -> io::Result<()> {
     for at in 0usize..PLACES {
         if kept.test(at) {
-            item(at as u64 + 1);
+            item(out, at as u64 + 1)?;
         }
     }
+    Ok(())
 }
 
 // The text's name, and the place in it.
-fn part(part: Part) {
+fn part(out: &mut impl Write, part: Part) -> io::Result<()> {
     let at = part.place;
     let text = part.text;
     match text {
-        Text::Program => place(b"program", at),
-        Text::Output => place(b"output", at),
+        Text::Program => place(out, b"program", at),
+        Text::Output => place(out, b"output", at),
     }
 }
 
-fn accepted(answer: Answer, places: &[u16], written: usize) {
-    say(b" atoms ");
-    number(answer.atoms as u64);
-    say(b" rounds ");
-    number(answer.rounds as u64);
-    say(b" each");
-    each(places, written);
+fn accepted(
+    out: &mut impl Write,
+    answer: Answer,
+    places: &[u16],
+    written: usize,
+) -> io::Result<()> {
+    say(out, b" atoms ")?;
+    number(out, answer.atoms as u64)?;
+    say(out, b" rounds ")?;
+    number(out, answer.rounds as u64)?;
+    say(out, b" each")?;
+    each(out, places, written)
 }
 
-fn unsatisfied(answer: Answer) {
+fn unsatisfied(out: &mut impl Write, answer: Answer) -> io::Result<()> {
     let positions = answer.positions;
-    say(b" rule ");
-    number(answer.rule as u64);
-    say(b" body");
-    first_positions(positions, answer.count);
+    say(out, b" rule ")?;
+    number(out, answer.rule as u64)?;
+    say(out, b" body")?;
+    first_positions(out, positions, answer.count)
 }
 
 // What stands before the part: the verdict, or REFUSED and its number.
-fn title(kind: Kind, code: u8) {
+fn title(out: &mut impl Write, kind: Kind, code: u8) -> io::Result<()> {
     match kind {
-        Kind::Refused => refused(code),
-        Kind::Accepted => say(b"ACCEPTED"),
-        Kind::Unsatisfied => say(b"UNSATISFIED"),
-        Kind::Smaller => say(b"SMALLER"),
-        Kind::ClaimedNone => say(b"CLAIMED-NONE"),
-        Kind::ClaimedUnknown => say(b"CLAIMED-UNKNOWN"),
+        Kind::Refused => refused(out, code),
+        Kind::Accepted => say(out, b"ACCEPTED"),
+        Kind::Unsatisfied => say(out, b"UNSATISFIED"),
+        Kind::Smaller => say(out, b"SMALLER"),
+        Kind::ClaimedNone => say(out, b"CLAIMED-NONE"),
+        Kind::ClaimedUnknown => say(out, b"CLAIMED-UNKNOWN"),
     }
 }
 
 // The values that the verdict names: how many places it writes.
-fn values(answer: Answer, places: &[u16]) -> usize {
+fn values(out: &mut impl Write, answer: Answer, places: &[u16]) -> io::Result<usize> {
     let kind = answer.kind;
     match kind {
         Kind::Accepted => {
             let written = rounds_written(answer);
-            accepted(answer, places, written);
-            written
+            accepted(out, answer, places, written)?;
+            Ok(written)
         }
         Kind::Unsatisfied => {
-            unsatisfied(answer);
-            0
+            unsatisfied(out, answer)?;
+            Ok(0)
         }
         Kind::Smaller => {
             let kept = answer.kept;
-            say(b" atoms");
-            members(kept);
-            0
+            say(out, b" atoms")?;
+            members(out, kept)?;
+            Ok(0)
         }
-        Kind::Refused => 0,
-        Kind::ClaimedNone => 0,
-        Kind::ClaimedUnknown => 0,
+        Kind::Refused => Ok(0),
+        Kind::ClaimedNone => Ok(0),
+        Kind::ClaimedUnknown => Ok(0),
     }
 }
 
-pub fn report(answer: Answer, places: &[u16]) {
+pub fn report(out: &mut impl Write, answer: Answer, places: &[u16]) -> io::Result<()> {
     let kind = answer.kind;
     let handed = answer.part;
-    title(kind, answer.number);
-    part(handed);
-    let written = values(answer, places);
-    ending(is_kept(places, written));
+    title(out, kind, answer.number)?;
+    part(out, handed)?;
+    let written = values(out, answer, places)?;
+    ending(out, is_kept(places, written))
 }

@@ -3,45 +3,61 @@ use crate::answer_line::report;
 use crate::places::fill;
 use checker::check;
 use frames::{MOST_BYTES, MOST_PLACES, behind_word, ends_with, newline, number_behind, read_bytes};
+use std::io;
+use std::io::{Read, Write};
 use texts::parts::bytes_in;
 use texts::place::span_from;
 
 // The texts are the program, of this length, and the output behind it.
-fn trial(texts: &[u8], program_len: usize, output_len: usize, code: u64, places: &mut [u16]) {
+fn trial(
+    out: &mut impl Write,
+    texts: &[u8],
+    program_len: usize,
+    output_len: usize,
+    code: u64,
+    places: &mut [u16],
+) -> io::Result<()> {
     fill(places);
     let program = bytes_in(texts, span_from(0, program_len));
     let output = bytes_in(texts, span_from(program_len, output_len));
     let answer = check(program, output, code, places);
-    report(answer, places);
+    report(out, answer, places)
 }
 
 // The answer to the frame: false where it is not of this form.
-pub fn answer(line: &[u8], texts: &mut [u8], places: &mut [u16]) -> bool {
+pub fn answer(
+    input: &mut impl Read,
+    out: &mut impl Write,
+    line: &[u8],
+    texts: &mut [u8],
+    places: &mut [u16],
+) -> io::Result<bool> {
     let code = number_behind(line, behind_word(5), u64::MAX);
     let room = number_behind(line, code, MOST_PLACES);
     let program = number_behind(line, room, MOST_BYTES);
     let output = number_behind(line, program, MOST_BYTES);
     if !ends_with(line, output) {
-        return false;
+        return Ok(false);
     }
     let program_len = program.value as usize;
     let output_len = output.value as usize;
-    if !read_bytes(texts, program_len + output_len) {
-        return false;
+    if !read_bytes(input, texts, program_len + output_len)? {
+        return Ok(false);
     }
-    if !newline() {
-        return false;
+    if !newline(input)? {
+        return Ok(false);
     }
     let most = room.value as usize;
     if places.len() < most {
-        return false;
+        return Ok(false);
     }
     trial(
+        out,
         texts,
         program_len,
         output_len,
         code.value,
         &mut places[0..most],
-    );
-    true
+    )?;
+    Ok(true)
 }

@@ -5,6 +5,8 @@
 use frames::{MOST_LINE, read_line, words};
 use print::say;
 use report::word::starts_with;
+use std::io;
+use std::io::{BufReader, BufWriter, Read, Write};
 
 mod answer_line;
 mod check_frame;
@@ -28,41 +30,66 @@ fn places_room() -> [u16; 2048] {
 }
 
 // The answer to a frame with this first line: false where it is of no known form.
-fn answer(line: &[u8], texts: &mut [u8], buffer: &mut [u8], places: &mut [u16]) -> bool {
+fn answer(
+    input: &mut impl Read,
+    out: &mut impl Write,
+    line: &[u8],
+    texts: &mut [u8],
+    buffer: &mut [u8],
+    places: &mut [u16],
+) -> io::Result<bool> {
     if starts_with(line, b"check ") {
-        return check_frame::answer(line, texts, places);
+        return check_frame::answer(input, out, line, texts, places);
     }
     if starts_with(line, b"plain ") {
-        return plain_frame::answer(line, texts, buffer);
+        return plain_frame::answer(input, out, line, texts, buffer);
     }
-    false
+    Ok(false)
 }
 
-// One frame: false where the input ends, or the frame is of no known form.
-fn one(texts: &mut [u8], buffer: &mut [u8], places: &mut [u16]) -> bool {
+// One frame: false where the input ends, or the frame is of no known form. What it prints is handed on before the next frame is waited for.
+fn one(
+    input: &mut impl Read,
+    out: &mut impl Write,
+    texts: &mut [u8],
+    buffer: &mut [u8],
+    places: &mut [u16],
+) -> io::Result<bool> {
     let mut line = [0u8; MOST_LINE];
-    let read = read_line(&mut line);
+    let read = read_line(input, &mut line)?;
     if read.ended {
-        return false;
+        return Ok(false);
     }
-    if !answer(words(&line, read.len), texts, buffer, places) {
-        say(b"BAD FRAME\n");
-        return false;
+    let known = answer(input, out, words(&line, read.len), texts, buffer, places)?;
+    if !known {
+        say(out, b"BAD FRAME\n")?;
     }
-    true
+    out.flush()?;
+    Ok(known)
 }
 
-// A proved loop ends, and nothing says that the input does: so it counts down.
-fn all(texts: &mut [u8], buffer: &mut [u8], places: &mut [u16]) {
-    let mut turns = u64::MAX;
-    while turns > 0 && one(texts, buffer, places) {
-        turns -= 1;
+// A proved loop ends, and nothing says that the input does: so it counts its turns.
+fn all(
+    input: &mut impl Read,
+    out: &mut impl Write,
+    texts: &mut [u8],
+    buffer: &mut [u8],
+    places: &mut [u16],
+) -> io::Result<()> {
+    for _ in 0..u64::MAX {
+        if !one(input, out, texts, buffer, places)? {
+            break;
+        }
     }
+    Ok(())
 }
 
-fn main() {
+// Input is read ahead, and an answer is kept until it is whole, so that a run of many small frames makes few calls of the system.
+fn main(rt: HostRuntime) -> io::Result<()> {
+    let mut input = BufReader::new(rt.alloc(), rt.stdin())?;
+    let mut out = BufWriter::new(rt.alloc(), rt.stdout())?;
     let mut texts = texts_room();
     let mut buffer = buffer_room();
     let mut places = places_room();
-    all(&mut texts, &mut buffer, &mut places);
+    all(&mut input, &mut out, &mut texts, &mut buffer, &mut places)
 }

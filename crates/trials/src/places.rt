@@ -6,21 +6,17 @@ fn pattern(at: usize) -> u16 {
 }
 
 pub fn fill(places: &mut [u16]) {
-    let mut at = 0;
-    while at < places.len() {
+    for at in 0..places.len() {
         places[at] = pattern(at);
-        at += 1;
     }
 }
 
 // Is every place from one on as it was before the call?
 pub fn is_kept(places: &[u16], from: usize) -> bool {
-    let mut at = from;
-    while at < places.len() {
+    for at in from..places.len() {
         if places[at] != pattern(at) {
             return false;
         }
-        at += 1;
     }
     true
 }

@@ -2,6 +2,8 @@
 use crate::print::{ending, number, place, refused, say};
 use frames::{MOST_BYTES, behind_word, ends_with, newline, number_behind, read_bytes};
 use plain::{Written, write_plain};
+use std::io;
+use std::io::{Read, Write};
 use texts::parts::bytes_in;
 use texts::place::span_from;
 
@@ -11,68 +13,69 @@ fn pattern(at: usize) -> u8 {
 }
 
 fn fill(buffer: &mut [u8]) {
-    let mut at = 0;
-    while at < buffer.len() {
+    for at in 0..buffer.len() {
         buffer[at] = pattern(at);
-        at += 1;
     }
 }
 
 // Is every byte from a place on as it was before the call?
 fn is_kept(buffer: &[u8], from: usize) -> bool {
-    let mut at = from;
-    while at < buffer.len() {
+    for at in from..buffer.len() {
         if buffer[at] != pattern(at) {
             return false;
         }
-        at += 1;
     }
     true
 }
 
-fn report(written: Written, buffer: &[u8]) {
+fn report(out: &mut impl Write, written: Written, buffer: &[u8]) -> io::Result<()> {
     let at = written.place;
     if written.code != 0 {
-        refused(written.code);
-        place(b"program", at);
-        ending(is_kept(buffer, 0));
-        return;
+        refused(out, written.code)?;
+        place(out, b"program", at)?;
+        return ending(out, is_kept(buffer, 0));
     }
     let length = written.length;
-    say(b"WRITTEN");
-    place(b"program", at);
-    say(b" length ");
-    number(length as u64);
-    ending(is_kept(buffer, length));
-    say(bytes_in(buffer, span_from(0, length)));
-    say(b"\n");
+    say(out, b"WRITTEN")?;
+    place(out, b"program", at)?;
+    say(out, b" length ")?;
+    number(out, length as u64)?;
+    ending(out, is_kept(buffer, length))?;
+    say(out, bytes_in(buffer, span_from(0, length)))?;
+    say(out, b"\n")
 }
 
-fn trial(program: &[u8], buffer: &mut [u8]) {
+fn trial(out: &mut impl Write, program: &[u8], buffer: &mut [u8]) -> io::Result<()> {
     fill(buffer);
     let written = write_plain(program, buffer);
-    report(written, buffer);
+    report(out, written, buffer)
 }
 
 // The answer to the frame: false where it is not of this form.
-pub fn answer(line: &[u8], texts: &mut [u8], buffer: &mut [u8]) -> bool {
+pub fn answer(
+    input: &mut impl Read,
+    out: &mut impl Write,
+    line: &[u8],
+    texts: &mut [u8],
+    buffer: &mut [u8],
+) -> io::Result<bool> {
     let room = number_behind(line, behind_word(5), MOST_BYTES);
     let length = number_behind(line, room, MOST_BYTES);
     if !ends_with(line, length) {
-        return false;
+        return Ok(false);
     }
     let most = room.value as usize;
     let n = length.value as usize;
-    if !read_bytes(texts, n) {
-        return false;
+    if !read_bytes(input, texts, n)? {
+        return Ok(false);
     }
-    if !newline() {
-        return false;
+    if !newline(input)? {
+        return Ok(false);
     }
     let program = bytes_in(texts, span_from(0, n));
     if buffer.len() < most {
-        return false;
+        return Ok(false);
     }
-    trial(program, &mut buffer[0..most]);
-    true
+    trial(out, program, &mut buffer[0..most])?;
+    Ok(true)
 }

@@ -1,39 +1,39 @@
 // An answer's words, numbers and places, on standard output.
-use libc::STDOUT_FILENO;
+use std::io;
+use std::io::Write;
 use texts::place::Place;
 
-pub fn say(words: &[u8]) {
-    io::write_all(STDOUT_FILENO, words);
+pub fn say(out: &mut impl Write, words: &[u8]) -> io::Result<()> {
+    out.write_all(words)
 }
 
-pub fn number(n: u64) {
-    io::print_decimal(STDOUT_FILENO, n);
+pub fn number(out: &mut impl Write, n: u64) -> io::Result<()> {
+    write!(out, "{n}")
 }
 
 // A place of the text with this name.
-pub fn place(text: &[u8], place: Place) {
-    say(b" ");
-    say(text);
-    say(b" ");
-    number(place.start as u64);
-    say(b" ");
-    number(place.len as u64);
-    say(b" ");
-    number(place.line as u64);
-    say(b" ");
-    number(place.column as u64);
+pub fn place(out: &mut impl Write, text: &[u8], place: Place) -> io::Result<()> {
+    say(out, b" ")?;
+    say(out, text)?;
+    say(out, b" ")?;
+    number(out, place.start as u64)?;
+    say(out, b" ")?;
+    number(out, place.len as u64)?;
+    say(out, b" ")?;
+    number(out, place.line as u64)?;
+    say(out, b" ")?;
+    number(out, place.column as u64)
 }
 
 // The line's last word: whether what the answer does not write is as it was.
-pub fn ending(kept: bool) {
+pub fn ending(out: &mut impl Write, kept: bool) -> io::Result<()> {
     if kept {
-        say(b" kept\n");
-        return;
+        return say(out, b" kept\n");
     }
-    say(b" touched\n");
+    say(out, b" touched\n")
 }
 
-pub fn refused(code: u8) {
-    say(b"REFUSED ");
-    number(code as u64);
+pub fn refused(out: &mut impl Write, code: u8) -> io::Result<()> {
+    say(out, b"REFUSED ")?;
+    number(out, code as u64)
 }
