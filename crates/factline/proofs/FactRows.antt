@@ -15,7 +15,7 @@ use Rattle.codes.specs.Codes.{no_value, Coded}
 use Rattle.codes.specs.Predicates.{CodedName}
 use Rattle.codes.specs.Related.{Pairwise, end, pair, RelatedTerm, both_constant, both_variable, RelatedAtom}
 use Rattle.tables.specs.Layout.{fact_stride, arguments_column}
-use Rattle.tables.specs.Rows.{from, term_of, arity, atom_with, fact_predicate, fact_arguments, fact_at, facts_of}
+use Rattle.tables.specs.Rows.{term_of, arity, atom_with, fact_predicate, fact_arguments, fact_at, facts_of}
 use Rattle.tables.specs.Stored.{with_row, Kept}
 use Rattle.tables.proofs.Stored.{put_kept_of, put_part_of, kept_part}
 use Rattle.tables.proofs.RowParts.{predicate_part, arguments_part}

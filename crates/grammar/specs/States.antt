@@ -5,7 +5,7 @@ use Rattle.meaning.specs.Domain.{Operation}
 use Rattle.meaning.specs.Rules.{Bytes}
 use Rattle.grammar.specs.Tokens.{Sign}
 use Rattle.grammar.specs.Trees.{Free, Sequence, count, Term, Atom, Literal, Heads, head_count, Program}
-use Rattle.grammar.specs.Spelling.{Mark, inside, argument, literal, rule, head}
+use Rattle.grammar.specs.Spelling.{Mark, inside, argument, literal, rule}
 
 -- ---- contexts
 

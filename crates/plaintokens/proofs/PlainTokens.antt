@@ -13,7 +13,7 @@ use Rattle.reading.specs.Reading.{Marked, ◌at◌, tokens}
 use Rattle.reading.proofs.Lists.{tokens_append}
 use Rattle.meaning.specs.Domain.{Operation, equal, unequal, less, at_most, greater, at_least}
 use Rattle.meaning.specs.Rules.{Bytes}
-use Rattle.grammar.specs.Tokens.{Sign, sign, <>, Symbol, not, minus, opening, closing, comma, dot, :-, bar, Token, comparison, symbol}
+use Rattle.grammar.specs.Tokens.{Sign, sign, <>, Symbol, not, opening, closing, comma, dot, :-, bar, Token, comparison, symbol}
 use Rattle.grammar.specs.Trees.{Sequence, empty, ◌then◌, count, Term, name, variable, string, number, negative, anonymous, Arguments, bare, parentheses, arguments, Atom, atom, Literal, positive, negated, compared, computed, Heads, head, also, Rule, fact, clause, Program}
 use Rattle.grammar.specs.Spelling.{Mark, inside, Spelling, mere, with_commas, spell_term, spell_argument, spell_arguments, spell_signed, spell_atom, spell_operation, spell_compared, spell_literal, spell_nth_literal, spell_heads, spell_head, spell_rule, spell}
 use Rattle.grammar.specs.PlainForm.{each, plain_term, plain_arguments, plain_atom, plain_sign, plain_literal, plain_heads, plain_head, plain_rule, plain_form}

@@ -1,7 +1,6 @@
 -- `seek` meets its contract. The invariant: the link leads to a name of the slot or is 0, and the name that is looked for has no number
 -- from the link on. The measure is the link. Assumes nothing.
 use Rattle.names.specs.Table.{count, name_at}
-use Prim.Native.Nat.{◌-◌}
 use Rattle.names.proofs.Chains.{Seeking}
 use Rattle.names.proofs.seek.Given as goal
 

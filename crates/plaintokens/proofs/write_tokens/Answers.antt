@@ -1,6 +1,5 @@
 -- `write_tokens` meets its contract. The invariant: what is written, and what is still to be written of the tokens from this one on, are the text's
 -- plain form. The measure is what is left of the text. Assumes nothing.
-use Prim.Native.Nat.{◌-◌}
 use native.Mathlib.Omega.{arith}
 use mathlib.Core.Bool.{false}
 use mathlib.Core.Path.{refl}

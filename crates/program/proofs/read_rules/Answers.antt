@@ -1,7 +1,6 @@
 -- `read_rules` meets its contract. The invariant: so many rules have been read as far as here and stand in the tables, and what is
 -- remembered is the first case of refusal 5 among their tokens. The measure is how many more rules there may be. Assumes nothing.
 use mathlib.Core.Path.{refl}
-use Prim.Native.Nat.{◌-◌}
 use native.Mathlib.Omega.{arith}
 use Rattle.program.proofs.Loop.{going_start, going_puttable, stops_there, at_end, room, goes_on}
 use borrow.Author.Rules.{rules}

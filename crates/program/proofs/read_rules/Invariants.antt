@@ -2,7 +2,6 @@
 -- remembered is the first case of refusal 5 among their tokens. The measure is how many more rules there may be. Assumes nothing.
 use Prim.Native.Nat.{◌-◌}
 use Rattle.program.proofs.Loop.{Going}
-use borrow.Author.Rules.{rules}
 use Rattle.program.proofs.read_rules.Given as goal
 
 abbrev pub invariant-loop-places : goal.invariant-loop-places

@@ -1,6 +1,5 @@
 -- `dot_end` meets its contract. The invariant: reading stands here, and the first dot from here on is the first from the start on. The
 -- measure is what is left of the text. Assumes nothing.
-use Prim.Native.Nat.{◌-◌}
 use native.Mathlib.Omega.{arith}
 use mathlib.Core.Bool.{false}
 use mathlib.Core.Path.{refl, sym as inv, ap, ◌∙◌}

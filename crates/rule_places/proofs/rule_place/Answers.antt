@@ -1,6 +1,5 @@
 -- `rule_place` meets its contract. The invariant: so many dots are passed, and here, where reading stands, the tokens behind them begin. The
 -- measure is how many are left. Assumes nothing.
-use Prim.Native.Nat.{◌-◌}
 use native.Mathlib.Omega.{arith}
 use mathlib.Core.Bool.{false}
 use mathlib.Core.Path.{◌≡◌, ap, ◌∙◌}

@@ -1,5 +1,4 @@
 -- `first_left` meets its contract. The invariant: all before `at` are ruled out. The measure is how many are left. Assumes nothing.
-use Prim.Native.Nat.{◌-◌}
 use native.Mathlib.Omega.{arith}
 use Rattle.subsets.proofs.Left.{one_more, left_here}
 use Rattle.subsets.proofs.first_left.Goals as goal

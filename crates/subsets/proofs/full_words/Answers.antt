@@ -1,6 +1,5 @@
 -- `full_words` meets its contract. The invariant: all before `at`, which starts a word, are ruled out. The measure is how many are left. Assumes
 -- nothing.
-use Prim.Native.Nat.{◌-◌}
 use native.Mathlib.Omega.{arith}
 use borrow.Author.Count.{below_none}
 use borrow.Author.Rules.{rules}

@@ -1,7 +1,7 @@
 -- `mark_words` meets its contract. The invariant: each chosen word before the one at hand has the pattern, and `others` has no fact in common with
 -- the masks. The measure is how many words are left. Assumes nothing.
 use mathlib.Core.Path.{refl}
-use Prim.Native.Nat.{◌+◌, ◌-◌, ◌^◌, ◌<◌}
+use Prim.Native.Nat.{◌+◌, ◌^◌, ◌<◌}
 use native.Mathlib.Nat.{zero-add}
 use native.Mathlib.Omega.{arith}
 use lib.Dec.{lit<}

@@ -1,6 +1,5 @@
 -- `arguments::some_arguments` meets its contract. The invariant: the numbers so far stand for the arguments that have been read as far as here.
 -- The measure is how many more there may be. Assumes nothing.
-use Prim.Native.Nat.{◌-◌}
 use mathlib.Core.Path.{refl, ap}
 use native.Mathlib.Omega.{arith}
 use Rattle.syntax.proofs.Lists.{separator_stands}

@@ -1,6 +1,5 @@
 -- `body::body_at` meets its contract. The invariant: the rows so far stand for the literals that have been read as far as here.
 -- The measure is how many more there may be. Assumes nothing.
-use Prim.Native.Nat.{◌-◌}
 use native.Mathlib.Omega.{arith}
 use Rattle.syntax.proofs.Readings.{fills_stands}
 use Rattle.clauses.proofs.BodyLaws.{going_start, going_ready, going_stops, going_room, going_fits, going_wrong, going_end, going_on}

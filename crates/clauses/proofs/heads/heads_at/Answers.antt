@@ -2,7 +2,6 @@
 -- The measure is how many more there may be. Assumes nothing.
 use mathlib.Core.Path.{refl}
 use mathlib.Core.Bool.{false}
-use Prim.Native.Nat.{◌-◌}
 use native.Mathlib.Omega.{arith}
 use Rattle.syntax.proofs.Tokens.{past_here, past_countable}
 use Rattle.atoms.proofs.AtomLaws.{ready_head}

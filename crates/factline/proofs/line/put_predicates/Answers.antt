@@ -1,7 +1,6 @@
 -- `line::put_predicates` meets its contract. The invariant: the predicates of the facts before this one are listed. The measure is how many
 -- are left. Assumes nothing.
 use mathlib.Core.Path.{refl}
-use Prim.Native.Nat.{◌-◌}
 use native.Mathlib.Omega.{arith}
 use Rattle.factline.proofs.LineLaws.{listed_none, listed_more, listed_all}
 use Rattle.factline.proofs.line.put_predicates.Goals as goal

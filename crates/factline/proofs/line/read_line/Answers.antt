@@ -1,6 +1,5 @@
 -- `line::read_line` meets its contract. The invariant: the facts before this one have their rows and their places, and what lies ahead of
 -- them is what lies ahead of the line. The measure is how many more there may be. Assumes nothing.
-use Prim.Native.Nat.{◌-◌}
 use mathlib.Core.Path.{refl}
 use native.Mathlib.Omega.{arith}
 use Rattle.factline.proofs.LineLaws.{going_start, going_ready, line_stops, line_ends, facts_room, puttable, going_on}

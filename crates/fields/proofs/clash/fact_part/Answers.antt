@@ -1,5 +1,4 @@
 -- `clash::fact_part` meets its contract: the line's start, counted on as far as the fact. Assumes nothing.
-use Rattle.texts.specs.Place.{with_len}
 use Rattle.fields.proofs.clash.fact_part.Goals as goal
 
 pub along-start-requires : goal.along-start-requires

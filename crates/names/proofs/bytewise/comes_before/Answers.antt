@@ -1,6 +1,5 @@
 -- `names::bytewise::comes_before` meets its contract. The invariant: the one comes before the other where what is left of it does.
 -- The measure is what is left of the first. Assumes nothing.
-use Prim.Native.Nat.{◌-◌}
 use mathlib.Core.Path.{refl, sym, ◌∙◌}
 use Rattle.names.proofs.Before.{before_end, before_longer, before_differs, before_on}
 use Rattle.names.proofs.bytewise.comes_before.Goals as goal

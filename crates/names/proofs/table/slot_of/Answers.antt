@@ -1,6 +1,5 @@
 -- `table::slot_of` meets its contract. The invariant: the bytes from here on lead from this slot to the name's. The measure is what is
 -- left of the name. Assumes nothing.
-use Prim.Native.Nat.{◌-◌}
 use mathlib.Core.Path.{refl, sym, ◌∙◌}
 use native.Mathlib.Omega.{arith}
 use Rattle.names.proofs.Slots.{slot_end, slot_on}

@@ -1,6 +1,5 @@
 -- `put::put_bytes` meets its contract. The invariant: the bytes before this one are written. The measure is what is left of them.
 -- Assumes nothing.
-use Prim.Native.Nat.{◌-◌}
 use native.Mathlib.Omega.{arith}
 use Rattle.plaintokens.proofs.Puts.{put_none, put_length, byte_room, byte_on, byte_end}
 use Rattle.plaintokens.proofs.put.put_bytes.Goals as goal

@@ -1,6 +1,5 @@
 -- `around::out_of_place` meets its contract. The invariant: what is first out of place from here on is so from the start on; and the line and
 -- the column are those of here. The measure is what is left of the text: the next line begins further on. Assumes nothing.
-use Prim.Native.Nat.{◌-◌}
 use mathlib.Core.Path.{sym, ap, ◌∙◌}
 use borrow.Author.Tests.{ltb-true, ltb-false, not-true, not-false}
 use Rattle.texts.specs.declared.place.Place.{Place}

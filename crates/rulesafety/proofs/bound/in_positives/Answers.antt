@@ -1,7 +1,6 @@
 -- `bound::in_positives` meets its contract. The invariant: the variables of the literals before this one are added. The measure is how
 -- many are left. Assumes nothing.
 use mathlib.Core.Path.{◌≡◌, refl}
-use Prim.Native.Nat.{◌-◌}
 use native.Mathlib.Omega.{arith}
 use Rattle.meaning.specs.Sets.{any}
 use Rattle.tables.specs.Rows.{from}

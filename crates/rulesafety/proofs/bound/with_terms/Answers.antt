@@ -1,7 +1,6 @@
 -- `bound::with_terms` meets its contract. The invariant: the variables of the terms before this one are added. The measure is how many
 -- are left. Assumes nothing.
 use mathlib.Core.Path.{◌≡◌}
-use Prim.Native.Nat.{◌-◌}
 use native.Mathlib.Omega.{arith}
 use lib.ListN.{length}
 use Rattle.meaning.specs.Sets.{any}

@@ -1,9 +1,7 @@
 -- `equation::first_gain` meets its contract. The invariant: no row before this one gains. The measure is how many are left.
 -- Assumes nothing.
 use mathlib.Core.Path.{sym, ◌∙◌}
-use Prim.Native.Nat.{◌-◌}
 use native.Mathlib.Omega.{arith}
-use Rattle.rulesafety.specs.Scanned.{gains}
 use Rattle.rulesafety.proofs.Gaining.{gain_start, gain_end, gain_here, gain_later}
 use Rattle.rulesafety.proofs.equation.first_gain.Goals as goal
 

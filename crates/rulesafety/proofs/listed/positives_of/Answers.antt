@@ -1,6 +1,5 @@
 -- `listed::positives_of` meets its contract. The invariant: the rows of the positive literals before this one are found. The measure is
 -- how many are left. Assumes nothing.
-use Prim.Native.Nat.{◌-◌}
 use native.Mathlib.Omega.{arith}
 use Rattle.rulesafety.proofs.Listing.{found_start, found_on, found_end}
 use Rattle.rulesafety.proofs.listed.positives_of.Goals as goal

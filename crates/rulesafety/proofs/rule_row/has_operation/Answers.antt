@@ -1,7 +1,6 @@
 -- `rule_row::has_operation` meets its contract. The invariant: no row before this one has one. The measure is how many are left.
 -- Assumes nothing.
 use mathlib.Core.Path.{sym, ◌∙◌}
-use Prim.Native.Nat.{◌-◌}
 use native.Mathlib.Omega.{arith}
 use Rattle.rulesafety.proofs.Operations.{operation_start, operation_here, operation_later, operation_end}
 use Rattle.rulesafety.proofs.rule_row.has_operation.Goals as goal

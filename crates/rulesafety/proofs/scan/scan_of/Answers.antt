@@ -1,6 +1,5 @@
 -- `scan::scan_of` meets its contract. The invariant: what the scan of the meaning finds is what is found so far and what it finds from
 -- here. The measure is how many equations may still come. Assumes nothing.
-use Prim.Native.Nat.{◌-◌}
 use native.Mathlib.Omega.{arith}
 use Rattle.rulesafety.proofs.Going.{going_start, going_full, going_stop, gain_low, going_on}
 use Rattle.rulesafety.proofs.scan.scan_of.Goals as goal

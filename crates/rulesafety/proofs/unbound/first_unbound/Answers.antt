@@ -1,6 +1,5 @@
 -- `unbound::first_unbound` meets its contract. The invariant: every variable with a lower number is bound. The measure is how many
 -- numbers are left. Assumes nothing.
-use Prim.Native.Nat.{◌-◌}
 use native.Mathlib.Nat.{not-suc-le-zero}
 use native.Mathlib.Omega.{arith}
 use borrow.Author.Tests.{not-true, not-false}

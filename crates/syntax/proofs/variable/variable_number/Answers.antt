@@ -1,6 +1,5 @@
 -- `variable::variable_number` meets its contract. The invariant: the variable is none of those passed, so its number is what has been
 -- passed and its number among the others. The measure is how many are left. Assumes nothing.
-use Prim.Native.Nat.{◌-◌}
 use native.Mathlib.Omega.{arith}
 use mathlib.Core.Path.{refl, ap}
 use mathlib.Core.List.{map}

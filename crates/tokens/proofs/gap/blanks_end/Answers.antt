@@ -1,11 +1,8 @@
 -- `gap::blanks_end` meets its contract. The invariant: what is left of the blanks from here, added to here, is where they end; and the line and
 -- the column are those of here. The measure is what is left of the text. Assumes nothing.
-use Prim.Native.Nat.{◌-◌}
 use native.Mathlib.Omega.{arith}
 use mathlib.Core.Path.{refl, sym, ◌∙◌}
-use mathlib.Core.Bool.{true}
 use borrow.Author.Tests.{not-true, not-false}
-use Rattle.lexis.specs.Run.{is_blank}
 use Rattle.texts.proofs.Prefix.{prefix_end, prefix_stop, prefix_on}
 use Rattle.texts.proofs.Counting.{countable, behind_stands, behind_start, behind_less}
 use Rattle.tokens.proofs.gap.blanks_end.Goals as goal

@@ -1,6 +1,5 @@
 -- `gap::gap_end` meets its contract. The invariant: what is left of the gap from here, added to here, is where the gap ends; and the line and
 -- the column are those of here. The measure is what is left of the text: a comment has a byte. Assumes nothing.
-use Prim.Native.Nat.{◌-◌}
 use native.Mathlib.Omega.{arith}
 use mathlib.Core.Path.{◌≡◌, refl, sym, ap, ◌∙◌}
 use mathlib.Core.Bool.{true, false}
