@@ -6,7 +6,6 @@ use Prim.Native.Nat.{ℕ, ◌≤◌, ◌<◌}
 use Rattle.promise.specs.Cases.{most_tested}
 use Rattle.candidate.proofs.WithFacts.{by_clash, by_room, by_subsets, by_stages, heads_inside, settling}
 use native.Mathlib.Omega.{arith}
-use borrow.Author.Tests.{ltb-true, ltb-false}
 use Rattle.candidate.proofs.with_facts.Goals as goal
 
 -- behind 12: the facts are few, or no rule has several heads

@@ -6,7 +6,7 @@ use Rattle.chains.proofs.Keys.{row_below}
 use Rattle.tables.specs.Rows.{arity, fact_predicate}
 use Rattle.tables.proofs.Strides.{part_is}
 use native.Mathlib.Omega.{arith}
-use Prim.Native.Nat.{ℕ, ◌+◌, ◌*◌, ◌<◌, ◌-◌}
+use Prim.Native.Nat.{ℕ, ◌+◌, ◌*◌, ◌<◌}
 use mathlib.Core.Bool.{true≢false, false≢true}
 use mathlib.Core.List.{List}
 use mathlib.Core.Path.{ap, sym, ◌∙◌}

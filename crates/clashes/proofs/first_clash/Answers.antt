@@ -3,7 +3,6 @@
 use Rattle.clashes.proofs.Search.{clear_more}
 use native.Mathlib.Omega.{arith}
 use native.Mathlib.Numerals.{add-one}
-use Prim.Native.Nat.{◌-◌}
 use mathlib.Core.Path.{refl}
 use Rattle.clashes.proofs.first_clash.Goals as goal
 

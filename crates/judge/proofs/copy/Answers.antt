@@ -1,5 +1,4 @@
 -- `copy` meets its contract. The invariant: the first i places are copied. The measure is how many are left. Assumes nothing.
-use Prim.Native.Nat.{◌-◌}
 use native.Mathlib.Omega.{arith}
 use Rattle.judge.proofs.Copies.{copied_none, copied_more, copied_all}
 use Rattle.judge.proofs.copy.Goals as goal

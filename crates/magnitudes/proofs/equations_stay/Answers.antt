@@ -1,7 +1,6 @@
 -- `equations_stay` meets its contract. The invariant: behind i equations there are values within the bounds that the others complete to what all
 -- complete. The measure is how many are left. Assumes nothing.
 use mathlib.Core.Bool.{false≢true}
-use Prim.Native.Nat.{◌-◌}
 use native.Mathlib.Omega.{arith}
 use Rattle.tables.proofs.Strides.{at_member}
 use Rattle.magnitudes.proofs.Equations.{bounding_none, bounding_one, bounding_all}

@@ -1,5 +1,4 @@
 -- `larger` meets its contract. The invariant: the codes before place i are no larger. The measure is how many are left. Assumes nothing.
-use Prim.Native.Nat.{◌-◌}
 use Rattle.magnitudes.proofs.Facts.{larger_none, larger_one, larger_all}
 use Rattle.magnitudes.proofs.larger.Goals as goal
 

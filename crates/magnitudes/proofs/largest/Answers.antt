@@ -1,5 +1,4 @@
 -- `largest` meets its contract. The invariant: the facts before k have no larger number. The measure is how many are left. Assumes nothing.
-use Prim.Native.Nat.{◌-◌}
 use native.Mathlib.Omega.{arith}
 use Rattle.magnitudes.proofs.Facts.{most_none, most_one, most_all}
 use Rattle.magnitudes.proofs.largest.Goals as goal

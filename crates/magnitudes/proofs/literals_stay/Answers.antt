@@ -1,7 +1,6 @@
 -- `literals_stay` meets its contract. The invariant: the literals from the first on stay in range, if those from l on do. The measure is how many
 -- are left. Assumes nothing.
 use mathlib.Core.Bool.{false≢true}
-use Prim.Native.Nat.{◌-◌}
 use native.Mathlib.Omega.{arith}
 use borrow.Author.Tests.{not-false}
 use Rattle.magnitudes.proofs.Bounds.{stay_on, stay_end}

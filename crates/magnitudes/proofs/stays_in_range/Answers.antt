@@ -11,7 +11,6 @@ use Rattle.magnitudes.proofs.Whole.{start_modest, rule_stays}
 use Prim.Native.Nat.{◌+◌, ◌*◌}
 use native.Mathlib.Omega.{arith}
 use borrow.Author.Tests.{not-false}
-use borrow.Author.Rules.{rules}
 use Rattle.magnitudes.proofs.stays_in_range.Goals as goal
 
 pub returns-then-rules-r-eq0 : goal.returns-then-rules-r-eq0

@@ -1,6 +1,5 @@
 -- `any_orders` meets its contract. The invariant: no rule before r asks. The measure is how many are left. Assumes nothing.
 use mathlib.Core.Bool.{true≢false}
-use Prim.Native.Nat.{◌-◌}
 use native.Mathlib.Omega.{arith}
 use Rattle.orders.proofs.Passed.{rules_none, rules_more, rules_all}
 use Rattle.orders.proofs.any_orders.Goals as goal

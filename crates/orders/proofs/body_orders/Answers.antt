@@ -1,6 +1,5 @@
 -- `body_orders` meets its contract. The invariant: no literal before l asks. The measure is how many are left. Assumes nothing.
 use mathlib.Core.Bool.{true≢false}
-use Prim.Native.Nat.{◌-◌}
 use Rattle.orders.proofs.Passed.{plain_none, plain_more, plain_all}
 use Rattle.orders.proofs.body_orders.Goals as goal
 

@@ -2,7 +2,6 @@
 -- left. Assumes nothing.
 use Rattle.overflow.proofs.Operations.{some_here, some_later, some_end}
 use native.Mathlib.Omega.{arith}
-use Prim.Native.Nat.{◌-◌}
 use mathlib.Core.Path.{refl, sym, ◌∙◌}
 use Rattle.overflow.proofs.any_leaves.Goals as goal
 

@@ -1,6 +1,5 @@
 -- `complete` meets its contract. The invariant: what the equations before place i have completed. The measure is how many are left. Assumes
 -- nothing.
-use Prim.Native.Nat.{◌-◌}
 use native.Mathlib.Omega.{arith}
 use Rattle.tables.proofs.Strides.{at_member}
 use Rattle.overflow.proofs.Completing.{none_completed, all_completed, one_completed}

@@ -1,5 +1,4 @@
 -- `copy` meets its contract. The invariant: what has been passed is the same. The measure is what is left. Assumes nothing.
-use Prim.Native.Nat.{◌-◌}
 use mathlib.Core.Path.{refl}
 use lib.ListN.{length-set}
 use Rattle.ranks.proofs.Filling.{copied_more, copied_all}

@@ -1,5 +1,4 @@
 -- `merge` meets its contract. The invariant: i numbers of the left and j of the right are merged. The measure is what is left. Assumes nothing.
-use Prim.Native.Nat.{◌-◌}
 use mathlib.Core.Path.{refl}
 use native.Mathlib.Omega.{arith}
 use lib.ListN.{length-set}

@@ -1,5 +1,4 @@
 -- `number` meets its contract. The invariant: what has been passed are the numbers below. The measure is what is left. Assumes nothing.
-use Prim.Native.Nat.{◌-◌}
 use mathlib.Core.Path.{refl}
 use lib.ListN.{length-set}
 use Rattle.ranks.specs.Sorting.{numbers}

@@ -1,5 +1,4 @@
 -- `place` meets its contract. The invariant: each number that has been passed has its place. The measure is what is left. Assumes nothing.
-use Prim.Native.Nat.{◌-◌}
 use mathlib.Core.Path.{refl}
 use native.Mathlib.Omega.{arith}
 use lib.ListN.{length-set}

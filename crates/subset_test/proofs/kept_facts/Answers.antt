@@ -1,7 +1,6 @@
 -- `kept_facts` meets its contract. The invariant: the set has the facts before this one whose bits the number has. The measure is how many facts are
 -- left. Assumes nothing.
 use mathlib.Core.Path.{◌≡◌}
-use Prim.Native.Nat.{◌-◌}
 use native.Mathlib.Omega.{arith}
 use Rattle.subset_test.proofs.KeptSets.{bit_one, bit_not_one, no_facts, fact_marked, fact_passed}
 use Rattle.subset_test.proofs.kept_facts.Goals as goal

@@ -1,7 +1,6 @@
 -- `refute_all` meets its contract. The invariant: the rules before this one have ruled out what they refute, and each pair of the cache is ruled out.
 -- The measure is how many rules are left. Assumes nothing.
 use mathlib.Core.Path.{◌≡◌, sym, ◌∙◌}
-use Prim.Native.Nat.{◌-◌}
 use native.Mathlib.Omega.{arith}
 use Rattle.subset_test.proofs.Tested.{none_refuted, walking_start, rule_refuted}
 use Rattle.subset_test.proofs.refute_all.Goals as goal

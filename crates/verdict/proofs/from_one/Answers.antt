@@ -1,6 +1,5 @@
 -- `from_one` meets its contract. The invariant: the positions before this one are counted from 1, and behind them stand zeros.
 -- The measure is how many are left. Assumes nothing.
-use Prim.Native.Nat.{◌-◌}
 use native.Mathlib.Omega.{arith}
 use borrow.Author.Rules.{rules}
 use Rattle.verdict.proofs.Counting.{counted_none, counted_more, counted_all}

@@ -1,7 +1,5 @@
 -- `several::several_heads` meets its contract. The invariant: no rule before this one has several heads. The measure is how many are left. Assumes nothing.
 use mathlib.Core.Path.{◌≡◌, sym}
-use mathlib.Core.Bool.{false}
-use Prim.Native.Nat.{◌-◌}
 use native.Mathlib.Omega.{arith}
 use lib.Dec.{lit<}
 use Rattle.judge.proofs.HeadCounts.{none_several, still_single, several_there}

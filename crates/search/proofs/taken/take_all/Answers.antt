@@ -1,5 +1,4 @@
 -- `take_all` meets its contract. The invariant: the first a facts have their places. The measure is how many are left. Assumes nothing.
-use Prim.Native.Nat.{◌-◌}
 use native.Mathlib.Omega.{arith}
 use Rattle.search.proofs.AllTaken.{taken_none, taken_more, taken_all}
 use Rattle.search.proofs.taken.take_all.Goals as goal

@@ -1,6 +1,5 @@
 -- `heads::heads_mask` meets its contract. The invariant: the mask has the heads before this one. The measure is how many are left. Assumes nothing.
 use mathlib.Core.Path.{◌≡◌}
-use Prim.Native.Nat.{◌-◌}
 use native.Mathlib.Omega.{arith}
 use Rattle.derived_set.proofs.Bits.{one_shifted}
 use Rattle.subset_test.proofs.HeadMasks.{no_heads, head_masked, head_unmasked}
