@@ -16,7 +16,7 @@ fn dot_end(text: &[u8], at: Place) -> Place
     ensures { (result.start ≡ dot_end (end_of text.now) (placed_from false text.now at.start)) × Stands text.now result }
 {
     let mut next = at;
-    loop {
+    'reading: loop {
         let token = token_at(text, next, false);
         let end = past(token.place);
         if token.kind == END {

@@ -7,28 +7,28 @@ use Rattle.syntax.proofs.Tokens.{within, place_stands, past_countable, past_here
 use Rattle.rule_places.proofs.Dots.{no_dot, dot_here, dot_later}
 use Rattle.rule_places.proofs.dot_end.Goals as goal
 
-pub loop-end-init : goal.loop-end-init
-loop-end-init c = (c.requires, refl)
+pub reading-init : goal.reading-init
+reading-init c = (c.requires, refl)
 
 pub token_at-token-requires : goal.token_at-token-requires
-token_at-token-requires c = c.loop-end.invariant.0
+token_at-token-requires c = c.reading.invariant.0
 
 pub past-end-requires : goal.past-end-requires
 past-end-requires c =
-    past_countable false c.args.text.now c.loop-end.next.start _ c.token_at-token.ensures (omega arith)
+    past_countable false c.args.text.now c.reading.next.start _ c.token_at-token.ensures (omega arith)
 
 pub returns-then-token-eq-END : goal.returns-then-token-eq-END
 returns-then-token-eq-END c =
-    (inv (c.loop-end.invariant.1 ∙ no_dot false c.args.text.now c.loop-end.next.start _ c.token_at-token.ensures c.if-token-eq-END.true ∙ ap (λ p. p.start) (end_here false c.args.text.now c.loop-end.next.start _ c.token_at-token.ensures c.if-token-eq-END.true)), place_stands false c.args.text.now c.loop-end.next.start _ c.token_at-token.ensures)
+    (inv (c.reading.invariant.1 ∙ no_dot false c.args.text.now c.reading.next.start _ c.token_at-token.ensures c.if-token-eq-END.true ∙ ap (λ p. p.start) (end_here false c.args.text.now c.reading.next.start _ c.token_at-token.ensures c.if-token-eq-END.true)), place_stands false c.args.text.now c.reading.next.start _ c.token_at-token.ensures)
 
 pub returns-then-token-eq-DOT : goal.returns-then-token-eq-DOT
 returns-then-token-eq-DOT c =
-    (ap (λ p. p.start) c.past-end.ensures ∙ inv (c.loop-end.invariant.1 ∙ dot_here false c.args.text.now c.loop-end.next.start _ c.token_at-token.ensures c.if-token-eq-DOT.true), rw c.past-end.ensures (past_here false c.args.text.now c.loop-end.next.start _ c.token_at-token.ensures (λ q. refl)))
+    (ap (λ p. p.start) c.past-end.ensures ∙ inv (c.reading.invariant.1 ∙ dot_here false c.args.text.now c.reading.next.start _ c.token_at-token.ensures c.if-token-eq-DOT.true), rw c.past-end.ensures (past_here false c.args.text.now c.reading.next.start _ c.token_at-token.ensures (λ q. refl)))
 
-pub loop-end-smaller : goal.loop-end-smaller
-loop-end-smaller c =
-    omega (arith, ap (λ p. p.start) c.past-end.ensures, forward false c.args.text.now c.loop-end.next.start _ c.token_at-token.ensures c.if-token-eq-END.false, within false c.args.text.now c.loop-end.next.start _ c.token_at-token.ensures)
+pub reading-smaller : goal.reading-smaller
+reading-smaller c =
+    omega (arith, ap (λ p. p.start) c.past-end.ensures, forward false c.args.text.now c.reading.next.start _ c.token_at-token.ensures c.if-token-eq-END.false, within false c.args.text.now c.reading.next.start _ c.token_at-token.ensures)
 
-pub loop-end-preserved : goal.loop-end-preserved
-loop-end-preserved c =
-    rw c.past-end.ensures (past_here false c.args.text.now c.loop-end.next.start _ c.token_at-token.ensures (λ q. refl), c.loop-end.invariant.1 ∙ dot_later false c.args.text.now c.loop-end.next.start _ c.token_at-token.ensures c.if-token-eq-END.false c.if-token-eq-DOT.false)
+pub reading-preserved : goal.reading-preserved
+reading-preserved c =
+    rw c.past-end.ensures (past_here false c.args.text.now c.reading.next.start _ c.token_at-token.ensures (λ q. refl), c.reading.invariant.1 ∙ dot_later false c.args.text.now c.reading.next.start _ c.token_at-token.ensures c.if-token-eq-END.false c.if-token-eq-DOT.false)

@@ -9,8 +9,8 @@ use Rattle.syntax.specs.Text.{placed_from, end_of}
 use Rattle.rule_places.specs.Sentences.{dot_end}
 use Rattle.rule_places.proofs.dot_end.Given as goal
 
-abbrev pub invariant-loop-end : goal.invariant-loop-end
-invariant-loop-end l = Stands l.text l.next × (dot_end (end_of l.text) (placed_from false l.text l.initial.next.start) ≡ dot_end (end_of l.text) (placed_from false l.text l.next.start))
+abbrev pub invariant-reading : goal.invariant-reading
+invariant-reading l = Stands l.text l.next × (dot_end (end_of l.text) (placed_from false l.text l.initial.next.start) ≡ dot_end (end_of l.text) (placed_from false l.text l.next.start))
 
-abbrev pub decreases-loop-end : goal.decreases-loop-end
-decreases-loop-end l = length l.text - l.next.start
+abbrev pub decreases-reading : goal.decreases-reading
+decreases-reading l = length l.text - l.next.start
