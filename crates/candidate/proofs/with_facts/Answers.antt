@@ -6,6 +6,7 @@ use Prim.Native.Nat.{ℕ, ◌≤◌, ◌<◌}
 use Rattle.promise.specs.Cases.{most_tested}
 use Rattle.candidate.proofs.WithFacts.{by_clash, by_room, by_subsets, by_stages, heads_inside, settling}
 use native.Mathlib.Omega.{arith}
+use borrow.Author.Rules.{rules}
 use Rattle.candidate.proofs.with_facts.Goals as goal
 
 -- behind 12: the facts are few, or no rule has several heads
@@ -14,10 +15,10 @@ few several facts (inl w) t = w.1
 few several facts (inr one) t = absurd (true≢false (sym t ∙ one))
 
 pub returns-then-fault-ne-NONE : goal.returns-then-fault-ne-NONE
-returns-then-fault-ne-NONE c = λ line P I s clash of placed. by_clash _ _ _ _ _ _ clash of P I s line _ c.if-fault-ne-NONE.true placed _ c.refused.ensures
+returns-then-fault-ne-NONE c = λ line P I s clash of placed. by_clash _ _ _ _ _ _ clash of P I s line _ c.if-fault-ne-NONE.true placed _ (search rules)
 
 pub returns-then-places-counts : goal.returns-then-places-counts
-returns-then-places-counts c = λ line P I s clash of placed. by_room _ _ _ _ _ _ clash of P I s line _ c.if-fault-ne-NONE.false c.if-places-counts.true _ c.refused-then-places-counts.ensures
+returns-then-places-counts c = λ line P I s clash of placed. by_room _ _ _ _ _ _ clash of P I s line _ (search rules) c.if-places-counts.true _ (search rules)
 
 pub several_heads-several-requires : goal.several_heads-several-requires
 several_heads-several-requires c =

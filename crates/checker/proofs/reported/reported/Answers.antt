@@ -9,11 +9,11 @@ read_output-read-requires c = tables_lent _ _ _ _ _ c.requires (search rules) (s
 
 pub returns-then-read-ne0 : goal.returns-then-read-ne0
 returns-then-read-ne0 c =
-    λ d held. by_output _ _ _ _ d _ c.read_output-read.ensures.given c.if-read-ne0.true _ c.refused.ensures
+    λ d held. by_output _ _ _ _ d _ c.read_output-read.ensures.given c.if-read-ne0.true _ (search rules)
 
 pub returns-then-not-agrees : goal.returns-then-not-agrees
 returns-then-not-agrees c =
-    λ d held. by_code _ _ _ _ d _ c.read_output-read.ensures.given c.if-read-ne0.false _ c.agrees.ensures c.if-not-agrees.true-raw _ c.refused-then-not-agrees.ensures
+    λ d held. by_code _ _ _ _ d _ c.read_output-read.ensures.given (search rules) _ c.agrees.ensures c.if-not-agrees.true-raw _ (search rules)
 
 pub put_facts-fault-requires : goal.put_facts-fault-requires
 put_facts-fault-requires c = puttable _ _ _ _ _ c.read_output-read.ensures c.if-read-ne0.false c.in-Answer.is _ c.requires.long (search rules) (search rules) (search rules)
