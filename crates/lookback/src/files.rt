@@ -1,5 +1,6 @@
 // The program's arguments, and the files that they name.
-use std::alloc::Global;
+ghost use Rattle.std.specs.Prelude.{◌≤◌, IfOk};
+
 use std::io::{ErrorKind, Read, Write};
 use std::rt::{Env, Files};
 use std::{io, str};
@@ -112,21 +113,33 @@ pub fn open_output<R: Files + Env>(
     }
 }
 
-// What an open file holds, up to one byte more than a text may have.
-pub fn read_text<R: Read + Drop>(alloc: Global, input: R) -> io::Result<Vec<u8>> {
-    let mut text = Vec::new(alloc);
-    input.take(ROOM as u64).read_to_end(&mut text)?;
-    Ok(text)
+// Reads what an open file holds, as far as there is room: how many bytes that is. A read that a signal interrupts is tried again.
+pub fn read_text<R: Read>(input: &mut R, room: &mut [u8; ROOM]) -> io::Result<usize>
+    ensures { IfOk result (λ n. n ≤ ROOM) }
+{
+    let mut filled = 0;
+    for _ in 0..u64::MAX {
+        match input.read(&mut room[filled..]) {
+            Ok(0) => break,
+            Ok(n) => filled += n,
+            Err(error) if error.kind() == ErrorKind::Interrupted => {}
+            Err(error) => return Err(error),
+        }
+    }
+    Ok(filled)
 }
 
 // The same of an output.
-pub fn read_output<R: Files + Input + AllocGlobal>(
+pub fn read_output<R: Files + Input>(
     rt: &R,
     output: Source<R::File>,
-) -> io::Result<Vec<u8>> {
+    room: &mut [u8; ROOM],
+) -> io::Result<usize>
+    ensures { IfOk result (λ n. n ≤ ROOM) }
+{
     match output {
-        Source::File(file) => read_text(rt.alloc(), file),
-        Source::Stdin => read_text(rt.alloc(), rt.reader()),
+        Source::File(mut file) => read_text(&mut file, room),
+        Source::Stdin => read_text(&mut rt.reader(), room),
     }
 }
 

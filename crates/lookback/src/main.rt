@@ -5,7 +5,7 @@
 
 use files::{CODE, OUTPUT, PROGRAM, Source, WORD};
 use std::io;
-use std::io::{BufWriter, Write};
+use std::io::Write;
 use std::rt::{Env, Files};
 use texts::parts::same_bytes;
 
@@ -40,20 +40,22 @@ fn check<'a>(
 }
 
 // The answer for two open files and a code.
-fn check_files<R: Env + Files + Input + AllocGlobal>(
+fn check_files<R: Env + Files + Input>(
     rt: &R,
     out: &mut impl Write,
     err: &mut impl Write,
-    program: R::File,
+    mut program: R::File,
     output: Source<R::File>,
     code: u64,
 ) -> io::Result<()> {
-    let text = files::read_text(rt.alloc(), program)?;
-    let reported = files::read_output(rt, output)?;
-    check(rt, out, err, text.as_slice(), reported.as_slice(), code)
+    let mut text = files::space();
+    let mut reported = files::space();
+    let n = files::read_text(&mut program, &mut text)?;
+    let m = files::read_output(rt, output, &mut reported)?;
+    check(rt, out, err, &text[..n], &reported[..m], code)
 }
 
-fn check_arguments<R: Env + Files + Input + AllocGlobal>(
+fn check_arguments<R: Env + Files + Input>(
     rt: &R,
     out: &mut impl Write,
     err: &mut impl Write,
@@ -85,20 +87,21 @@ fn write(
     fault::of_writer(rt, err, program, written)
 }
 
-fn plain_arguments<R: Env + Files + AllocGlobal>(
+fn plain_arguments<R: Env + Files>(
     rt: &R,
     out: &mut impl Write,
     err: &mut impl Write,
 ) -> io::Result<()> {
-    let Some(program) = files::open_argument(rt, err, PROGRAM)? else {
+    let Some(mut program) = files::open_argument(rt, err, PROGRAM)? else {
         return Ok(());
     };
-    let text = files::read_text(rt.alloc(), program)?;
-    write(rt, out, err, text.as_slice())
+    let mut text = files::space();
+    let n = files::read_text(&mut program, &mut text)?;
+    write(rt, out, err, &text[..n])
 }
 
 // What the first argument asks for.
-fn run<R: Env + Files + Input + AllocGlobal>(
+fn run<R: Env + Files + Input>(
     rt: &R,
     out: &mut impl Write,
     err: &mut impl Write,
@@ -115,8 +118,5 @@ fn run<R: Env + Files + Input + AllocGlobal>(
 }
 
 fn main(rt: HostRuntime) -> io::Result<()> {
-    let mut out = BufWriter::new(rt.alloc(), rt.stdout())?;
-    let mut err = BufWriter::new(rt.alloc(), rt.stderr())?;
-    run(&rt, &mut out, &mut err)?;
-    err.flush()
+    run(&rt, &mut rt.stdout(), &mut rt.stderr())
 }

@@ -6,7 +6,7 @@ use frames::{MOST_LINE, read_line, words};
 use print::say;
 use report::word::starts_with;
 use std::io;
-use std::io::{BufReader, BufWriter, Read, Write};
+use std::io::{Read, Write};
 
 mod answer_line;
 mod check_frame;
@@ -84,12 +84,15 @@ fn all(
     Ok(())
 }
 
-// Input is read ahead, and an answer is kept until it is whole, so that a run of many small frames makes few calls of the system.
 fn main(rt: HostRuntime) -> io::Result<()> {
-    let mut input = BufReader::new(rt.alloc(), rt.stdin())?;
-    let mut out = BufWriter::new(rt.alloc(), rt.stdout())?;
     let mut texts = texts_room();
     let mut buffer = buffer_room();
     let mut places = places_room();
-    all(&mut input, &mut out, &mut texts, &mut buffer, &mut places)
+    all(
+        &mut rt.stdin(),
+        &mut rt.stdout(),
+        &mut texts,
+        &mut buffer,
+        &mut places,
+    )
 }
