@@ -1,12 +1,11 @@
 -- Arguments as numbers: what the function that reads them promises.
-use Rattle.std.specs.Prelude.{◌≡◌, false, List, [], ◌∷◌, ℕ, ◌-◌}
-use Rattle.texts.specs.declared.place.Place.{Place}
-use Rattle.syntax.specs.declared.token.TokenRead.{TokenRead}
+use Rattle.std.specs.Prelude.{◌≡◌, false, List, ℕ, ◌-◌, Result}
+use Rattle.texts.specs.declared.refusal.Refused.{Refused}
 use Rattle.texts.specs.Places.{places_in}
 use Rattle.meaning.specs.Rules.{Bytes, Term}
 use Rattle.meaning.specs.Values.{Value}
-use Rattle.syntax.specs.declared.token.Progress.{Progress}
-use Rattle.syntax.specs.Fills.{going, Fills}
+use Rattle.syntax.specs.declared.token.TokenRead.{TokenRead}
+use Rattle.syntax.specs.Fills.{Fills}
 use Rattle.syntax.specs.Arguments.{arguments_in}
 use Rattle.rows.specs.Coding.{CodedTerms, Codes}
 use Rattle.terms.specs.declared.cursor.Cursor.{Cursor}
@@ -18,16 +17,9 @@ pub record ReadySome (program output text : Bytes) (names variables : List ℕ) 
   pub ready : ReadyToken program output text names variables k t
   pub some_one : t.kind ≡ 6 → ⊥
 
-abbrev pub ReadsArguments : Bytes → Bytes → Bytes → List ℕ → List ℕ → Cursor → ArgumentsRead → List ℕ → List ℕ → Type 0
-ReadsArguments program output text names variables k r names' variables' = Fills (arguments_in k.ground) false text k.at.start (met_before variables k) r.progress (places_in variables' r.met) (λ (ts : List (Term Value)). Codes program output names (r.progress.place.start - k.at.start) (λ ns. CodedTerms ns r.terms r.count ts) names')
+-- the numbers stand for the terms, beside the table of names afterwards; what has been read began at a place
+abbrev pub ArgumentsStand : Bytes → Bytes → List ℕ → ℕ → ArgumentsRead → List ℕ → List (Term Value) → Type 0
+ArgumentsStand program output names at a names' ts = Codes program output names (a.behind.start - at) (λ ns. CodedTerms ns a.terms a.count ts) names'
 
--- ---- what the parts of it answer
-
-abbrev pub no_codes : List ℕ
-no_codes = 0 ∷ 0 ∷ 0 ∷ 0 ∷ 0 ∷ 0 ∷ 0 ∷ 0 ∷ []
-
-abbrev pub stopped_arguments : Progress → ℕ → ArgumentsRead
-stopped_arguments p met = record { progress = p; terms = no_codes; count = 0; met = met }
-
-abbrev pub gone_arguments : List ℕ → ℕ → Place → ℕ → ArgumentsRead
-gone_arguments terms count next met = record { progress = going next; terms = terms; count = count; met = met }
+abbrev pub ReadsArguments : Bytes → Bytes → Bytes → List ℕ → List ℕ → Cursor → Result ArgumentsRead Refused → List ℕ → List ℕ → Type 0
+ReadsArguments program output text names variables k r names' variables' = Fills (arguments_in k.ground) false text k.at.start (met_before variables k) r (λ a. a.behind) (λ a. places_in variables' a.met) (λ a. ArgumentsStand program output names k.at.start a names')

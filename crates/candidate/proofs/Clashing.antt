@@ -3,6 +3,7 @@ use mathlib.Core.Path.{◌≡◌, refl, sym, ap, ◌∙◌}
 use mathlib.Core.Bool.{Bool, true, false, not}
 use mathlib.Core.Logic.{◌⊎◌, inl, inr}
 use mathlib.Core.Option.{some}
+use Rattle.std.specs.Prelude.{Some, None}
 use mathlib.Core.List.{List}
 use Prim.Native.Nat.{ℕ, ◌+◌, ◌<◌, ◌≤◌}
 use native.Mathlib.Decide.{dec_lt, ℕ_discrete}
@@ -24,11 +25,15 @@ use Rattle.codes.proofs.Coded.{coded_domain, code_laws}
 use Rattle.tables.specs.Rows.{fact_at, facts_of}
 use Rattle.tables.proofs.Strides.{from_length, from_at}
 use Rattle.reach.specs.Reach.{Apart}
+use Rattle.clashes.specs.declared.Reason.{Reason}
 use Rattle.clashes.specs.declared.Clashing.{Clashing}
-use Rattle.clashes.specs.Clashes.{turned, alike, Earlier, FirstClash}
+use Rattle.clashes.specs.Clashes.{turned, alike, Earlier, Clear, First}
 use Rattle.clashes.specs.Clashes as clashes
 use Rattle.stages.specs.Parts.{Part}
-use Rattle.stages.specs.Stage.{stop, First, first}
+use Rattle.stages.specs.Stage as stages
+use Rattle.stages.specs.Stage.{stop, first}
+use Rattle.texts.specs.Refusal.{number_of}
+use Rattle.candidate.specs.Facts.{refusal_of}
 use Rattle.promise.specs.Cases.{opposite, Clash, repeats, opposes}
 
 -- ---- the same fact
@@ -105,13 +110,12 @@ module _ (names : List Bytes) (table : Distinct names) (facts : List ℕ) (count
   clash_twin k n (opposes _ j a l e f) = inr (refl, record { earlier = j; before = l; one = opposite a; other = a; there = e; here = f; same = twice_turned a })
 
   -- a fact that stands has none
-  stands_clear : (k : ℕ) → clashes.Clash names facts k 0 → (n : ℕ) → ¬ Clash I k n
+  stands_clear : (k : ℕ) → clashes.Clash names facts k None → (n : ℕ) → ¬ Clash I k n
   stands_clear k (clashes.stands never neither) n h = elim (clash_twin k n h) [ inl x ↦ never (to_numbers false k x.1) | inr y ↦ neither (to_numbers true k y.1) ]
 
-  at_first : (k n : ℕ) → k < count → clashes.Clash names facts k n → (n ≡ 0 → ⊥) → Clash I k n × ((m : ℕ) → Clash I k m → n ≤ m)
-  at_first k n l (clashes.repeats e) z = (twin_repeats k (to_values false k l e), λ m h. elim (clash_twin k m h) [ inl x ↦ omega (arith, x.0) | inr y ↦ omega (arith, y.0) ])
-  at_first k n l (clashes.opposes never e) z = (twin_opposes k (to_values true k l e), λ m h. elim (clash_twin k m h) [ inl x ↦ absurd (never (to_numbers false k x.1)) | inr y ↦ omega (arith, y.0) ])
-  at_first k n l (clashes.stands never neither) z = absurd (z refl)
+  at_first : (k : ℕ) (r : Reason) → k < count → clashes.Clash names facts k (Some r) → Clash I k (number_of (refusal_of r)) × ((m : ℕ) → Clash I k m → number_of (refusal_of r) ≤ m)
+  at_first k _ l (clashes.repeats e) = (twin_repeats k (to_values false k l e), λ m h. elim (clash_twin k m h) [ inl x ↦ omega (arith, x.0) | inr y ↦ omega (arith, y.0) ])
+  at_first k _ l (clashes.opposes never e) = (twin_opposes k (to_values true k l e), λ m h. elim (clash_twin k m h) [ inl x ↦ absurd (never (to_numbers false k x.1)) | inr y ↦ omega (arith, y.0) ])
 
   -- where none clashes, no two facts are the same
   earlier_clash : ((i n : ℕ) → ¬ Clash I i n) → (i j : ℕ) → i < j → j < count → fact_at facts i ≡ fact_at facts j → ⊥
@@ -125,7 +129,7 @@ module _ (names : List Bytes) (table : Distinct names) (facts : List ℕ) (count
         | no h ↦ elim (dec_lt j i) [ yes g ↦ absurd (earlier_clash clear j i g l (sym e)) | no g ↦ omega (arith, h, g) ]
       ]
 
-  module _ (r : Clashing) (found : FirstClash names facts count r) where
+  module _ (r : Clashing) (found : First names facts count r) where
     later : (n : ℕ) → ((m : ℕ) → Clash I r.fact m → n ≤ m) → (j m : ℕ) → Clash I j m → (r.fact < j) ⊎ ((r.fact ≡ j) × (n ≤ m))
     later n lowest j m h =
         elim (dec_lt r.fact j) [
@@ -134,14 +138,13 @@ module _ (names : List Bytes) (table : Distinct names) (facts : List ℕ) (count
         ]
 
     -- 6 or 7, at the first fact that has one
-    pub first_clashes : (part : ℕ → Part) → (r.number ≡ 0 → ⊥) → First part (Clash I) (stop r.number (part r.fact))
-    first_clashes part z =
-        let here = found.here z in
-        let x = at_first r.fact r.number here.0 here.1 z in
-        first r.fact r.number x.0 (later r.number x.1)
+    pub first_clashes : (part : ℕ → Part) → stages.First part (Clash I) (stop (number_of (refusal_of r.reason)) (part r.fact))
+    first_clashes part =
+        let x = at_first r.fact r.reason found.inside found.here in
+        first r.fact _ x.0 (later _ x.1)
 
-    pub none_clashes : r.number ≡ 0 → (i n : ℕ) → ¬ Clash I i n
-    none_clashes z i n h = stands_clear i (found.before i (omega (arith, found.nowhere z, below))) n h
-      where
-        below : i < count
-        below = elim (clash_twin i n h) [ inl x ↦ rw counted at (within I i x.1.here) | inr y ↦ rw counted at (within I i y.1.here) ]
+  pub none_clashes : Clear names facts count → (i n : ℕ) → ¬ Clash I i n
+  none_clashes clear i n h = stands_clear i (clear i below) n h
+    where
+      below : i < count
+      below = elim (clash_twin i n h) [ inl x ↦ rw counted at (within I i x.1.here) | inr y ↦ rw counted at (within I i y.1.here) ]

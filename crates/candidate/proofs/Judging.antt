@@ -7,6 +7,7 @@ use native.Mathlib.Numerals.{add-one}
 use native.Mathlib.Omega.{arith}
 use lib.ListN.{length, get_or, take, drop, take-append-drop, length-take, length-drop}
 use lib.Seq.{ext_get_or, get_or-drop}
+use Rattle.texts.specs.declared.refusal.Refusal.TheVariants as refusals
 use Rattle.meaning.specs.Rules.{Bytes, Fact, Rule}
 use Rattle.meaning.specs.Values.{Value, values, in_range}
 use Rattle.meaning.specs.Outcomes as meant
@@ -15,8 +16,7 @@ use Rattle.tables.specs.Rows.{from}
 use Rattle.tables.proofs.Strides.{from_length}
 use Rattle.rule_places.specs.Sentences.{sentence}
 use Rattle.judge.specs.declared.Judgement.{Judgement}
-use Rattle.judge.specs.declared.Kind.{Kind}
-use Rattle.judge.specs.declared.Kind.TheVariants.{OutOfRange, Unsatisfied, Accepted, Minimal, Smaller}
+use Rattle.judge.specs.declared.Judgement.TheVariants.{OutOfRange, Unsatisfied, Accepted, Minimal, Smaller}
 use Rattle.judge.specs.Judged.{said, Lent, SetShown}
 use Rattle.promise.specs.Answer as paper
 use Rattle.promise.specs.Judged.{Settled, settles}
@@ -46,27 +46,27 @@ written n old new room long same =
 says_as : {x y : paper.Answer} (a : Answer) → x ≡ y → Says a x → Says a y
 says_as a e s = rw (← e) s
 
-module _ (text : Bytes) (P : List (Rule Value)) (I : List (Fact Value)) (old new : List ℕ) (j : Judgement) (n : ℕ) (room : n ≤ length old) (few : n ≤ places) where
+module _ (text : Bytes) (P : List (Rule Value)) (I : List (Fact Value)) (old new : List ℕ) (n : ℕ) (room : n ≤ length old) (few : n ≤ places) where
   abbrev Here : Answer → List ℕ → Type 0
   Here = Answers (Settled (rule_part text) P I old) old
 
-  pub told : (k : Kind) → meant.MeansOutcome values in_range P I (said k j n new) → Lent k n old new → SetShown k j n → (a : Answer) → Tells text j n k a → Here a new
+  pub told : (j : Judgement) → meant.MeansOutcome values in_range P I (said j n new) → Lent j n old new → SetShown j n → (a : Answer) → Tells text n j a → Here a new
   unfolding said Lent SetShown settles paper.says
-  told OutOfRange h lent shown a leaves_range =
-      let stage = settled_is (rule_part text) P I old (meant.out_of_range (suc j.rule)) h in
-      let e : suc j.rule - 1 ≡ j.rule = omega arith in
-      rw lent (refuses _ old 8 Program (sentence false text j.rule) (rw e at stage) a refl)
-  told Unsatisfied h lent shown a (is_broken ps f) =
+  told (OutOfRange rule) h lent shown a (leaves_range _) =
+      let stage = settled_is (rule_part text) P I old (meant.out_of_range (suc rule)) h in
+      let e : suc rule - 1 ≡ rule = omega arith in
+      rw lent (refuses _ old Program (record { refusal = refusals.OutOfRange; place = sentence false text rule }) (rw e at stage) a refl)
+  told (Unsatisfied rule long positions) h lent shown a (is_broken _ _ _ ps f) =
       let stage = settled_is (rule_part text) P I old _ h in
-      let one : j.rule + 1 ≡ suc j.rule = add-one j.rule in
-      let taken = from_one_taken j.length j.positions ps f in
-      rw lent (hands_on _ old _ old stage a (says_as _ (cc (one, taken)) (unsatisfied_says (j.rule + 1) (positions_of j) ps (omega arith) f.long f.behind)))
-  told Accepted h lent shown a is_accepted =
+      let one : rule + 1 ≡ suc rule = add-one rule in
+      let taken = from_one_taken long positions ps f in
+      rw lent (hands_on _ old _ old stage a (says_as _ (cc (one, taken)) (unsatisfied_says (rule + 1) (positions_of long) ps (omega arith) f.long f.behind)))
+  told (Accepted rounds) h lent shown a (is_accepted _) =
       let stage = settled_is (rule_part text) P I old _ h in
-      hands_on _ old _ new (rw (written n old new room lent.0 lent.1) at stage) a (accepted_says n j.rounds)
+      hands_on _ old _ new (rw (written n old new room lent.0 lent.1) at stage) a (accepted_says n rounds)
   told Minimal h lent shown a is_minimal =
       let stage = settled_is (rule_part text) P I old _ h in
       rw lent (hands_on _ old _ old stage a (accepted_says n 0))
-  told Smaller h lent shown a (is_smaller words bits) =
+  told (Smaller set) h lent shown a (is_smaller _ words bits) =
       let stage = settled_is (rule_part text) P I old _ h in
-      rw lent (hands_on _ old _ old stage a (smaller_says j.set (from (holds j.set) n 0) (omega (arith, from_length (holds j.set) n 0, few)) (all_listed (holds j.set) n shown.none_behind) words bits shown.well_kept))
+      rw lent (hands_on _ old _ old stage a (smaller_says set (from (holds set) n 0) (omega (arith, from_length (holds set) n 0, few)) (all_listed (holds set) n shown.none_behind) words bits shown.well_kept))

@@ -42,15 +42,15 @@ module _ (program output : Bytes) (names rules literals facts links : List ℕ) 
     few_rules = omega (arith, same_length s.held.rules_held.rules_stand, from_length (rule_at rules literals) total 0, s.held.rules_held.rule_table.few)
 
     module _ (old new : List ℕ) (room : count ≤ length old) (j : Judgement) (judged : Judged (names_of program output names) (rules_of rules literals total) (facts_of facts count) old new j) where
-      answers : meant.MeansOutcome values in_range P I (said j.kind j (length (facts_of facts count)) new)
+      answers : meant.MeansOutcome values in_range P I (said j (length (facts_of facts count)) new)
       answers = (coded_answers (names_of program output names) s.held.rules_held.name_table.distinct s.held.rules_held.rules_stand s.held.facts_stand s.held.rules_held.safe_rules _).1 (sym judged.says)
 
-      pub room_to_count : length j.positions ≡ 16 → Small j
-      room_to_count wide = small P I few_rules few_facts j (length (facts_of facts count)) new wide answers
+      pub room_to_count : Small j
+      room_to_count = small P I few_rules few_facts (length (facts_of facts count)) new j answers
 
-      pub gives : (a : Answer) → Tells program j count j.kind a → Answers (Settled (rule_part program) P I old) old a new
+      pub gives : (a : Answer) → Tells program count j a → Answers (Settled (rule_part program) P I old) old a new
       gives a t =
-          told program P I old new j count room s.held.fact_table.few j.kind
+          told program P I old new count room s.held.fact_table.few j
           (rw facts_long at answers)
           (rw facts_long at judged.lent)
           (rw facts_long at judged.set_shown)

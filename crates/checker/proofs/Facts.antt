@@ -2,10 +2,12 @@
 use mathlib.Core.Path.{◌≡◌, ◌∙◌}
 use mathlib.Core.Bool.{Bool, true, false, not}
 use mathlib.Core.List.{List}
-use Prim.Native.Nat.{ℕ, ◌+◌, ◌≤◌}
+use Prim.Native.Nat.{ℕ, ◌+◌, ◌≤◌, ◌<◌}
 use native.Mathlib.Omega.{arith}
 use lib.ListN.{length, length-take, length-drop}
+use Rattle.std.specs.Prelude.{Option, Ok}
 use Rattle.texts.specs.declared.place.Place.{Place}
+use Rattle.texts.specs.declared.refusal.Refused.{Refused}
 use Rattle.output.proofs.Stages.{counted_on_line}
 use Rattle.rule_places.proofs.Inside.{sentence_inside}
 use Rattle.texts.proofs.Counting.{countable}
@@ -30,10 +32,11 @@ use Rattle.output.proofs.Uses.{Answering, handed_on, output_answers}
 use Rattle.store.specs.Store.{store_size, literals_in, rules_in}
 use Rattle.filling.specs.Filling.{facts_size, FactsFillable}
 use Rattle.fields.specs.declared.answer.Answer.{Answer}
+use Rattle.fields.specs.Parts.{fact_place}
 use Rattle.fields.specs.Checked.{Answers}
 use Rattle.candidate.specs.declared.settled.Counts.{Counts}
-use Rattle.candidate.specs.declared.Fault.{Fault}
 use Rattle.candidate.specs.Standing.{RulesStand, RulesHeld, Held, InStore}
+use Rattle.candidate.proofs.WithFacts.{same_fault}
 use Rattle.candidate.specs.Facts.{FaultOf, FactsPut, WithFacts, AnswersFacts, Reachable}
 use Rattle.checker.specs.Standing.{WithRules, BehindProgram}
 use Rattle.checker.proofs.Ways.{by_candidate}
@@ -50,9 +53,9 @@ module _ (program output : Bytes) where
 
   -- ---- behind ANSWER
 
-  module _ (t : OutputTables) (s : OutputRead) (u : OutputTables) (read : FillsOutput program output t s u) (y : s.code ≡ 0) (e : s.word ≡ words.Answer) where
+  module _ (t : OutputTables) (s : OutputRead) (u : OutputTables) (read : FillsOutput program output t (Ok s) u) (e : s.word ≡ words.Answer) where
     answering : Answering program output s.line s.count t u
-    answering = output_answers program output t s u read y e
+    answering = output_answers program output t s u read e
 
     line : Place
     line = answering.line
@@ -78,7 +81,15 @@ module _ (program output : Bytes) where
         let f = answering.held in
         (record { long = long; wide = wide; table = f.table; are_predicates = f.are_predicates }, omega (arith, f.table.few, starts), omega (arith, f.table.few, lengths), reachable)
 
-    module _ (store store' : List ℕ) (fault : Fault) (put : FactsPut s.line u.facts u.starts u.lengths s.count store store' fault) (total : ℕ) where
+    -- the place of a fact, in the output
+    placed : (k : ℕ) → k < s.count → fact_place s.line u.starts u.lengths k ≡ on_line output answering.line (sentence true (part output answering.line) k)
+    unfolding line fact_on
+    placed k here =
+        let f = answering.held in
+        (λ i. with_len (along (answering.line_is i) (f.starts_hold.first k here i)) (f.lengths_hold.first k here i))
+        ∙ counted_on_line output line (handed_on output answering.stage).straight (fact_on k) (on_the_line k)
+
+    module _ (store store' : List ℕ) (fault : Option Refused) (put : FactsPut s.line u.facts u.starts u.lengths s.count store store' fault) (total : ℕ) where
       abbrev counts : Counts
       counts = record { facts = s.count; rules = total }
 
@@ -88,28 +99,21 @@ module _ (program output : Bytes) where
           let held : Held program output u.names (rules_in store) (literals_in store) u.facts s.count total P (facts_for answering.tree_of) = record { rules_held = grown_held t.names u.names (rules_in store) (literals_in store) total _ P f.grows h; fact_table = f.table; facts_stand = f.stands } in
           rw (put.filled.rules_are, put.filled.literals_are, put.filled.facts_are) (record { held = held; linked = put.filled.linked })
 
-      faulty : FaultOf store' counts fault put.clash
-      faulty = record { first_clash = rw put.filled.facts_are put.filled.clash; numbered = put.numbered }
+      -- the fault, by the tables of places and in the output
+      faulty : FaultOf store' counts fault put.clash (fact_place s.line u.starts u.lengths)
+      faulty = record { first_clash = rw put.filled.facts_are put.filled.clash; is = put.is }
+
+      faulty_there : FaultOf store' counts fault put.clash (λ k. on_line output answering.line (sentence true (part output answering.line) k))
+      faulty_there = record { first_clash = faulty.first_clash; is = put.is ∙ same_fault _ _ u.facts s.count put.clash put.filled.clash placed }
 
       pub candidate_ready : WithRules program output t.names store total → WithFacts program output u.names store' counts fault
       candidate_ready w =
           let P = rules_for w.tree_of in
-          record { program_rules = P; candidate = facts_for answering.tree_of; long = put.filled.long; stands = in_store P (w.held (handed_on output answering.stage).size); clash = put.clash; fault_of = faulty }
-
-      -- the place of a fact that clashes, in the output
-      placed : (put.clash.number ≡ 0 → ⊥) → fault.place ≡ on_line output answering.line (sentence true (part output answering.line) put.clash.fact)
-      unfolding line fact_on
-      placed z =
-          let f = answering.held in
-          let here = ((put.filled.clash (names_of program output u.names)).here z).0 in
-          let k = put.clash.fact in
-          put.placed z
-          ∙ (λ i. with_len (along (answering.line_is i) (f.starts_hold.first k here i)) (f.lengths_hold.first k here i))
-          ∙ counted_on_line output line (handed_on output answering.stage).straight (fact_on k) (on_the_line k)
+          record { program_rules = P; candidate = facts_for answering.tree_of; long = put.filled.long; stands = in_store P (w.held (handed_on output answering.stage).size); clash = put.clash; at = fact_place s.line u.starts u.lengths; fault_of = faulty }
 
       module _ (code : ℕ) (places : List ℕ) (c : Program false) (held : length output ≤ most_text → RulesHeld program output t.names (rules_in store) (literals_in store) total (rules_for c)) (b : Bool) (agreeing : b ≡ agrees s.word code) (n : not b ≡ false) where
         pub candidate_answer : (a : Answer) (left : List ℕ) → AnswersFacts program output u.names store' counts fault places a left → Answers (BehindProgram program output code places c) places a left
         candidate_answer a left k =
             let x = answering in
-            by_candidate program output code places c s read.given y b agreeing n e x.line x.tree_of x.stage a left
-            (k x.line (rules_for c) (facts_for x.tree_of) (in_store (rules_for c) (held (handed_on output x.stage).size)) put.clash faulty placed)
+            by_candidate program output code places c s read.given b agreeing n e x.line x.tree_of x.stage a left
+            (k x.line (rules_for c) (facts_for x.tree_of) (in_store (rules_for c) (held (handed_on output x.stage).size)) put.clash faulty_there)

@@ -5,17 +5,19 @@ use mathlib.Core.List.{List, ◌++◌}
 use Prim.Native.Nat.{ℕ, ◌≤◌}
 use native.Mathlib.Omega.{arith}
 use lib.ListN.{length}
+use Rattle.std.specs.Prelude.{Ok, Err}
 use Rattle.texts.specs.Parts.{bytes_in}
 use Rattle.texts.specs.Sizes.{most_text}
+use Rattle.texts.specs.declared.refusal.Refused.{Refused}
 use Rattle.meaning.specs.Rules.{Bytes}
 use Rattle.grammar.specs.Trees.{Program}
 use Rattle.grammar.specs.Abstraction.{rules_for}
 use Rattle.stages.specs.Stage.{on}
-use Rattle.program.specs.declared.ProgramRead.{ProgramRead}
 use Rattle.program.specs.Stage.{ProgramStage}
 use Rattle.program.specs.Rules.{FillsRules}
 use Rattle.program.proofs.Taken.{read_is_read}
 use Rattle.program.proofs.Safe.{read_is_safe}
+use Rattle.program.proofs.Placed.{refused_placed}
 use Rattle.names.specs.Table.{names_of}
 use Rattle.names.specs.Numbering.{Empty}
 use Rattle.rows.specs.Growth.{Room}
@@ -29,7 +31,6 @@ use Rattle.fields.specs.Checked.{Answers}
 use Rattle.candidate.specs.Standing.{RulesHeld}
 use Rattle.checker.specs.Standing.{names_of_both, WithRules, AnswersRules}
 use Rattle.checker.proofs.Filling.{whole_size, cut_whole}
-use Rattle.checker.proofs.Programs.{RulesRead, program_refused, program_read}
 use Rattle.checker.proofs.Ways.{by_program, by_rules}
 
 module _ (program output : Bytes) where
@@ -56,25 +57,25 @@ module _ (program output : Bytes) where
 
   -- ---- what `fill_rules` leaves
 
-  module _ (names store : List ℕ) (empty : Empty (names_of_both program output) names) (within : Bytes) (e : within ≡ bytes_in output whole_size) (r : ProgramRead) (names' store' : List ℕ) (filled : RulesFilled program within names store r names' store') where
-    read : r.code ≡ 0 → RulesRead program within names filled.rules_before (literals_in store) r names' (rules_in store') (literals_in store') filled.reads
-    read = program_read program within names filled.rules_before (literals_in store) r names' (rules_in store') (literals_in store') filled.reads
+  module _ (names store : List ℕ) (within : Bytes) (names' store' : List ℕ) where
+    -- the program is read
+    module _ (empty : Empty (names_of_both program output) names) (e : within ≡ bytes_in output whole_size) (total : ℕ) (filled : RulesFilled program within names store (Ok total) names' store') where
+      held : length output ≤ most_text → RulesHeld program output names' (rules_in store') (literals_in store') total (rules_for filled.reads.tree)
+      held = with_rules_held filled.reads.tree filled.reads.reads names filled.rules_before (literals_in store) total names' (rules_in store') (literals_in store') within e filled.reads.filled
 
-    held : (z : r.code ≡ 0) → length output ≤ most_text → RulesHeld program output names' (rules_in store') (literals_in store') r.count (rules_for (read z).tree_of)
-    held z = with_rules_held (read z).tree_of (read z).stage names filled.rules_before (literals_in store) r.count names' (rules_in store') (literals_in store') within e (read z).fills
+      pub rules_ready : WithRules program output names' store' total
+      rules_ready =
+          record {
+            tree_of = filled.reads.tree;
+            long = filled.long;
+            held = held;
+            room = room_for_facts filled.reads.tree filled.reads.reads names filled.rules_before (literals_in store) total names' (rules_in store') (literals_in store') within e filled.reads.filled empty;
+          }
 
-    pub rules_ready : r.code ≡ 0 → WithRules program output names' store' r.count
-    rules_ready z =
-        record {
-          tree_of = (read z).tree_of;
-          long = filled.long;
-          held = held z;
-          room = room_for_facts (read z).tree_of (read z).stage names filled.rules_before (literals_in store) r.count names' (rules_in store') (literals_in store') within e (read z).fills empty;
-        }
+      pub rules_answer : (code : ℕ) (places : List ℕ) (a : Answer) (left : List ℕ) → AnswersRules program output code names' store' total places a left → Answers (Check program output code places) places a left
+      rules_answer code places a left k = by_rules program output code places filled.reads.tree filled.reads.reads a left (k filled.reads.tree held)
 
-    module _ (code : ℕ) (places : List ℕ) where
-      pub rules_answer : r.code ≡ 0 → (a : Answer) (left : List ℕ) → AnswersRules program output code names' store' r.count places a left → Answers (Check program output code places) places a left
-      rules_answer z a left k = by_rules program output code places (read z).tree_of (read z).stage a left (k (read z).tree_of (held z))
-
-      pub refusal_answer : (r.code ≡ 0 → ⊥) → (a : Answer) → a ≡ refused r.code InProgram r.place → Answers (Check program output code places) places a places
-      refusal_answer z a is = by_program program output code places r.code r.place (program_refused program within names filled.rules_before (literals_in store) r names' (rules_in store') (literals_in store') filled.reads z) a is
+    -- it is refused
+    pub refusal_answer : (fault : Refused) → RulesFilled program within names store (Err fault) names' store' → (code : ℕ) (places : List ℕ) (a : Answer) → a ≡ refused InProgram fault → Answers (Check program output code places) places a places
+    refusal_answer fault filled code places a is =
+        by_program program output code places fault (rw (filled.reads.place, ← (refused_placed program _ filled.reads.part filled.reads.reads).within) filled.reads.reads) a is

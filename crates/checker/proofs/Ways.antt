@@ -5,8 +5,12 @@ use mathlib.Core.List.{List}
 use Prim.Native.Nat.{ℕ}
 use borrow.Author.Tests.{eqb-true, eq-eqb}
 use lib.Dec.{eqb}
+use Rattle.std.specs.Prelude.{Ok, Err}
 use Rattle.texts.specs.declared.place.Place.{Place}
 use Rattle.texts.specs.Place.{text_start}
+use Rattle.texts.specs.declared.refusal.Refusal.TheVariants.{Disagreement}
+use Rattle.texts.specs.declared.refusal.Refused.{Refused}
+use Rattle.texts.specs.Refusal.{number_of}
 use Rattle.meaning.specs.Rules.{Bytes}
 use Rattle.meaning.proofs.Booleans.{not_true, not_false}
 use Rattle.grammar.specs.Trees.{Program}
@@ -24,9 +28,9 @@ use Rattle.output.proofs.Uses.{Says as Reports, output_refused, output_says}
 use Rattle.promise.specs.Answer as paper
 use Rattle.promise.specs.Answered.{Reported, code_of, Check}
 use Rattle.fields.specs.declared.answer.Text.TheVariants.{Program as InProgram, Output as InOutput}
-use Rattle.fields.specs.declared.answer.Kind.TheVariants.{ClaimedNone, ClaimedUnknown}
+use Rattle.fields.specs.declared.answer.Answer.TheVariants.{ClaimedNone, ClaimedUnknown}
 use Rattle.fields.specs.declared.answer.Answer.{Answer}
-use Rattle.fields.specs.Values.{claimed, refused}
+use Rattle.fields.specs.Values.{refused}
 use Rattle.fields.specs.Parts.{text_of}
 use Rattle.fields.specs.Checked.{Answers}
 use Rattle.candidate.specs.Facts.{Behind}
@@ -38,8 +42,8 @@ module _ (the_program the_output : Bytes) (code : ℕ) (places : List ℕ) where
   -- ---- the program
 
   -- it is refused
-  pub by_program : (n : ℕ) (place : Place) → ProgramStage the_program (stop n (in_text (text_of InProgram) place)) → (a : Answer) → a ≡ refused n InProgram place → Answers (Check the_program the_output code places) places a places
-  by_program n place h a e = refuses _ places n InProgram place (stops _ _ h) a e
+  pub by_program : (fault : Refused) → ProgramStage the_program (stop (number_of fault.refusal) (in_text (text_of InProgram) fault.place)) → (a : Answer) → a ≡ refused InProgram fault → Answers (Check the_program the_output code places) places a places
+  by_program fault h a e = refuses _ places InProgram fault (stops _ _ h) a e
 
   -- it is read
   pub by_rules : (c : Program false) → ProgramStage the_program (on c) → (a : Answer) (left : List ℕ) → Answers (BehindProgram the_program the_output code places c) places a left → Answers (Check the_program the_output code places) places a left
@@ -47,15 +51,15 @@ module _ (the_program the_output : Bytes) (code : ℕ) (places : List ℕ) where
 
   -- ---- the output, behind a program that is read
 
-  module _ (c : Program false) (s : OutputRead) (read : ReadsOutput the_output s) where
+  module _ (c : Program false) where
     abbrev Here : Answer → List ℕ → Type 0
     Here = Answers (BehindProgram the_program the_output code places c) places
 
     -- it is refused
-    pub by_output : (s.code ≡ 0 → ⊥) → (a : Answer) → a ≡ refused s.code InOutput s.place → Here a places
-    by_output y a e = refuses _ places _ InOutput _ (stops _ _ (output_refused the_output s read y)) a e
+    pub by_output : (fault : Refused) → ReadsOutput the_output (Err fault) → (a : Answer) → a ≡ refused InOutput fault → Here a places
+    by_output fault read a e = refuses _ places InOutput fault (stops _ _ (output_refused the_output fault read)) a e
 
-    module _ (y : s.code ≡ 0) where
+    module _ (s : OutputRead) (read : ReadsOutput the_output (Ok s)) where
       abbrev Reporting : Word → Type 0
       Reporting w = (x : Report) × OutputStage the_output (on x) × (agrees w code ≡ eqb code (code_of x))
 
@@ -65,10 +69,10 @@ module _ (the_program the_output : Bytes) (code : ℕ) (places : List ℕ) where
       report_of words.Unknown h = (claim_unknown, h, refl)
 
       -- code and report disagree
-      pub by_code : (b : Bool) → b ≡ agrees s.word code → not b ≡ true → (a : Answer) → a ≡ refused 10 InOutput text_start → Here a places
+      pub by_code : (b : Bool) → b ≡ agrees s.word code → not b ≡ true → (a : Answer) → a ≡ refused InOutput (record { refusal = Disagreement; place = text_start }) → Here a places
       by_code b agreeing n a e =
-          let x = report_of s.word (output_says the_output s read y) in
-          refuses _ places _ InOutput _ (goes x.0 _ x.1 (stops _ _ (given (λ f. true≢false (inv (eq-eqb code (code_of x.0) f) ∙ inv x.2 ∙ inv agreeing ∙ not_true b n))))) a e
+          let x = report_of s.word (output_says the_output s read) in
+          refuses _ places InOutput _ (goes x.0 _ x.1 (stops _ _ (given (λ f. true≢false (inv (eq-eqb code (code_of x.0) f) ∙ inv x.2 ∙ inv agreeing ∙ not_true b n))))) a e
 
       -- they agree
       agreed : (x : Report) → eqb code (code_of x) ≡ true → OutputStage the_output (on x) → (o : Outcome paper.Result) → Reported the_program the_output places c x o → BehindProgram the_program the_output code places c o
@@ -76,15 +80,15 @@ module _ (the_program the_output : Bytes) (code : ℕ) (places : List ℕ) where
 
       module _ (b : Bool) (agreeing : b ≡ agrees s.word code) (n : not b ≡ false) where
         -- what is only claimed
-        pub by_none : s.word ≡ words.Inconsistent → (a : Answer) → a ≡ claimed ClaimedNone → Here a places
-        by_none e a g =
-            let h : Reports the_output s.count words.Inconsistent = rw e at (output_says the_output s read y) in
-            hands_on _ places paper.claimed_none places (agreed claim_none (rw e at (inv agreeing ∙ not_false b n)) h _ refl) a (rw g none_says)
+        pub by_none : s.word ≡ words.Inconsistent → Here ClaimedNone places
+        by_none e =
+            let h : Reports the_output s.count words.Inconsistent = rw e at (output_says the_output s read) in
+            hands_on _ places paper.claimed_none places (agreed claim_none (rw e at (inv agreeing ∙ not_false b n)) h _ refl) _ none_says
 
-        pub by_unknown : s.word ≡ words.Unknown → (a : Answer) → a ≡ claimed ClaimedUnknown → Here a places
-        by_unknown e a g =
-            let h : Reports the_output s.count words.Unknown = rw e at (output_says the_output s read y) in
-            hands_on _ places paper.claimed_unknown places (agreed claim_unknown (rw e at (inv agreeing ∙ not_false b n)) h _ refl) a (rw g unknown_says)
+        pub by_unknown : s.word ≡ words.Unknown → Here ClaimedUnknown places
+        by_unknown e =
+            let h : Reports the_output s.count words.Unknown = rw e at (output_says the_output s read) in
+            hands_on _ places paper.claimed_unknown places (agreed claim_unknown (rw e at (inv agreeing ∙ not_false b n)) h _ refl) _ unknown_says
 
         -- a candidate
         pub by_candidate : s.word ≡ words.Answer → (line : Place) (fs : Program true) → OutputStage the_output (on (facts line fs)) → (a : Answer) (left : List ℕ) → Answers (Behind the_program the_output line places (rules_for c) (facts_for fs)) places a left → Here a left

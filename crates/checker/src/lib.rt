@@ -30,12 +30,10 @@ fn with_names<'a>(
     let mut store = empty_store();
     // The size of the output is not known yet, and no name is looked for behind its size.
     let within = bytes_in(output, span_from(0, MOST_TEXT));
-    let read = fill_rules(program, within, names, &mut store);
-    if read.code != 0 {
-        let place = read.place;
-        return refused(read.code, Text::Program, place);
+    match fill_rules(program, within, names, &mut store) {
+        Ok(total) => reported(program, output, code, names, &mut store, total, places),
+        Err(fault) => refused(Text::Program, fault),
     }
-    reported(program, output, code, names, &mut store, read.count, places)
 }
 
 // Refusals in their order, else the verdict; with ACCEPTED each atom's round in the places, from the first on, where no rule has several heads.

@@ -3,15 +3,19 @@ ghost use Rattle.checker.specs.Standing.{WithRules, AnswersRules};
 
 use candidate::settled::Counts;
 use candidate::{put_facts, with_facts};
-use fields::answer::{Answer, Kind, Text, claimed, refused};
+use fields::answer::{Answer, Text, refused};
 use output::read_output;
 use report::word::{Word, agrees};
 use tables::FACT;
 use texts::place::TEXT_START;
+use texts::refusal::{Refusal, Refused};
 use texts::sizes::MOST_FACTS;
 
 // The refusal where the solver's code and its report disagree.
-const DISAGREE: u8 = 10;
+const DISAGREE: Refused = Refused {
+    refusal: Refusal::Disagreement,
+    place: TEXT_START,
+};
 
 // The numbers of the facts' rows.
 const FACTS: usize = MOST_FACTS * FACT;
@@ -37,7 +41,7 @@ pub fn reported<'a>(
     let mut predicates = [0u64; MOST_FACTS];
     let mut starts = [0u32; MOST_FACTS];
     let mut lengths = [0u32; MOST_FACTS];
-    let read = read_output(
+    let read = match read_output(
         program,
         output,
         names,
@@ -45,19 +49,17 @@ pub fn reported<'a>(
         &mut predicates,
         &mut starts,
         &mut lengths,
-    );
-    let place = read.place;
-    let word = read.word;
+    ) {
+        Ok(read) => read,
+        Err(fault) => return refused(Text::Output, fault),
+    };
+    if !agrees(read.word, code) {
+        return refused(Text::Output, DISAGREE);
+    }
     let line = read.line;
-    if read.code != 0 {
-        return refused(read.code, Text::Output, place);
-    }
-    if !agrees(word, code) {
-        return refused(DISAGREE, Text::Output, TEXT_START);
-    }
-    match word {
+    let count = read.count;
+    match read.word {
         Word::Answer => {
-            let count = read.count;
             let fault = put_facts(line, &facts, &predicates, &starts, &lengths, count, store);
             let counts = Counts {
                 facts: count,
@@ -65,7 +67,7 @@ pub fn reported<'a>(
             };
             with_facts(program, output, &*names, &*store, counts, fault, places)
         }
-        Word::Inconsistent => claimed(Kind::ClaimedNone),
-        Word::Unknown => claimed(Kind::ClaimedUnknown),
+        Word::Inconsistent => Answer::ClaimedNone,
+        Word::Unknown => Answer::ClaimedUnknown,
     }
 }

@@ -11,7 +11,7 @@ use Rattle.meaning.proofs.Booleans.{same_or_not}
 use Rattle.tables.specs.Rows.{fact_predicate, fact_arguments}
 use Rattle.tables.specs.WellFormed.{FactTable}
 use Rattle.chains.specs.Links.{row_chain, InChain, Next}
-use Rattle.clashes.specs.Clashes.{alike, Earlier, Clash}
+use Rattle.clashes.specs.Clashes.{alike, Earlier}
 use Rattle.clashes.proofs.Rows.{alike_chained}
 
 -- no fact before j is alike
@@ -39,16 +39,3 @@ module _ (names : List Bytes) (facts : List ℕ) (count : ℕ) (opposed : Bool) 
 
 pub none_earlier : (names : List Bytes) (facts : List ℕ) (opposed : Bool) (k j : ℕ) → k ≤ j → Passed names facts opposed k j → Earlier names facts opposed k → ⊥
 none_earlier names facts opposed k j h so e = true≢false (sym e.2 ∙ so e.0 (omega (arith, e.1)))
-
--- ---- the first refusal
-
--- no fact before k has a refusal
-abbrev pub Clear : List Bytes → List ℕ → ℕ → Type 0
-Clear names facts k = (i : ℕ) → i < k → Clash names facts i 0
-
-pub clear_more : (names : List Bytes) (facts : List ℕ) (k n : ℕ) → n ≡ 0 → Clash names facts k n → Clear names facts k → (m : ℕ) → m ≡ suc k → Clear names facts m
-clear_more names facts k n z q so m e i h = go (same_or_not i k)
-  where
-    go : (i ≡ k) ⊎ (i ≡ k → ⊥) → Clash names facts i 0
-    go (inl y) = rw y (rw z at q)
-    go (inr y) = so i (omega arith)

@@ -1,9 +1,11 @@
--- Facts that can't stand beside an earlier one: 6 repeats it, 7 differs from it in sign alone.
-use Rattle.std.specs.Prelude.{◌≡◌, Bool, true, false, not, cond, List, ℕ, ◌/◌, ◌%◌, ◌<◌, eqb}
+-- Facts that can't stand beside an earlier one: one repeats it, or differs from it in sign alone.
+use Rattle.std.specs.Prelude.{Option, Some, None, ◌≡◌, Bool, true, false, not, cond, List, ℕ, ◌/◌, ◌%◌, ◌<◌, eqb}
 use Rattle.meaning.specs.Rules.{Bytes, Atom}
 use Rattle.meaning.specs.Instances.{same_fact}
 use Rattle.codes.specs.Domains.{codes}
 use Rattle.tables.specs.Rows.{fact_at}
+use Rattle.clashes.specs.declared.Reason.{Reason}
+use Rattle.clashes.specs.declared.Reason.TheVariants.{Repeated, Opposed}
 use Rattle.clashes.specs.declared.Clashing.{Clashing}
 
 -- an atom, or the same with the other sign
@@ -25,17 +27,26 @@ Repeats names facts k = Earlier names facts false k
 abbrev pub Opposes : List Bytes → List ℕ → ℕ → Type 0
 Opposes names facts k = Earlier names facts true k
 
--- the number of fact k's refusal, 0 where it has none
-pub data Clash (names : List Bytes) (facts : List ℕ) (k : ℕ) : ℕ → Type 0 where
-  repeats : Repeats names facts k → Clash names facts k 6
-  opposes : (Repeats names facts k → ⊥) → Opposes names facts k → Clash names facts k 7
-  stands : (Repeats names facts k → ⊥) → (Opposes names facts k → ⊥) → Clash names facts k 0
+-- why fact k clashes, if it does: that it repeats an earlier one comes first
+pub data Clash (names : List Bytes) (facts : List ℕ) (k : ℕ) : Option Reason → Type 0 where
+  repeats : Repeats names facts k → Clash names facts k (Some Repeated)
+  opposes : (Repeats names facts k → ⊥) → Opposes names facts k → Clash names facts k (Some Opposed)
+  stands : (Repeats names facts k → ⊥) → (Opposes names facts k → ⊥) → Clash names facts k None
 
--- the first fact that has a refusal, and its number; 0 and the number of facts where none has one
-pub record FirstClash (names : List Bytes) (facts : List ℕ) (count : ℕ) (r : Clashing) : Type 0 where
-  pub before : (k : ℕ) → k < r.fact → Clash names facts k 0
-  pub here : (r.number ≡ 0 → ⊥) → (r.fact < count) × Clash names facts r.fact r.number
-  pub nowhere : r.number ≡ 0 → r.fact ≡ count
+-- no fact before k does
+abbrev pub Clear : List Bytes → List ℕ → ℕ → Type 0
+Clear names facts k = (i : ℕ) → i < k → Clash names facts i None
+
+-- the first fact that does
+pub record First (names : List Bytes) (facts : List ℕ) (count : ℕ) (r : Clashing) : Type 0 where
+  pub before : Clear names facts r.fact
+  pub inside : r.fact < count
+  pub here : Clash names facts r.fact (Some r.reason)
+
+-- .. if one does
+abbrev pub FirstClash : List Bytes → List ℕ → ℕ → Option Clashing → Type 0
+FirstClash names facts count None = Clear names facts count
+FirstClash names facts count (Some r) = First names facts count r
 
 -- ---- for the code: what the numbers of two predicates say
 

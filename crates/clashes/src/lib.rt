@@ -9,20 +9,22 @@ ghost use Rattle.clashes.specs.Clashes.{alike, Earlier, Clash, FirstClash, diffe
 
 use tables::{ARGUMENTS, ARITIES, FACT};
 
-// The refusals of the two, and of a fact that has none.
-pub const REPEATED: u8 = 6;
-
-pub const OPPOSED: u8 = 7;
-
-pub const NONE: u8 = 0;
-
 // Twice as many as arities: what a predicate's name is divided off by.
 const SIGNED: u64 = 18;
 
-// The first fact that has a refusal, and its number.
+// Why a fact can't stand beside an earlier one.
+#[derive(Clone, Copy)]
+pub enum Reason {
+    // it repeats it
+    Repeated,
+    // the two differ in sign alone
+    Opposed,
+}
+
+// A fact that clashes, and why.
 #[derive(Clone, Copy)]
 pub struct Clashing {
-    pub number: u8,
+    pub reason: Reason,
     pub fact: usize,
 }
 
@@ -84,32 +86,29 @@ fn earlier(facts: &[u64], links: &[u64], opposed: bool, k: usize) -> bool
     false
 }
 
-// The refusal of fact k.
-pub fn clash(facts: &[u64], links: &[u64], k: usize) -> u8
+// Why fact k clashes with an earlier one, if it does.
+pub fn clash(facts: &[u64], links: &[u64], k: usize) -> Option<Reason>
     requires { (count : ℕ) × FactTable facts.now count × Linked links.now facts.now count × (k < count) }
     ensures { (names : List Bytes) → Clash names facts.now k result }
 {
     if earlier(facts, links, false, k) {
-        return REPEATED;
+        return Some(Reason::Repeated);
     }
     if earlier(facts, links, true, k) {
-        return OPPOSED;
+        return Some(Reason::Opposed);
     }
-    NONE
+    None
 }
 
-// The first fact that has a refusal; the number of facts where none has one.
-pub fn first_clash(facts: &[u64], links: &[u64], count: usize) -> Clashing
+// The first fact that clashes with an earlier one.
+pub fn first_clash(facts: &[u64], links: &[u64], count: usize) -> Option<Clashing>
     requires { FactTable facts.now count × Linked links.now facts.now count }
     ensures { (names : List Bytes) → FirstClash names facts.now count result }
 {
-    let mut fact: usize = 0;
-    while fact < count {
-        let number = clash(facts, links, fact);
-        if number != NONE {
-            return Clashing { number, fact };
+    for fact in 0..count {
+        if let Some(reason) = clash(facts, links, fact) {
+            return Some(Clashing { reason, fact });
         }
-        fact += 1;
     }
-    Clashing { number: NONE, fact }
+    None
 }

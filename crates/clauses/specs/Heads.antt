@@ -1,5 +1,7 @@
 -- Heads as rows: what the function that reads them promises.
-use Rattle.std.specs.Prelude.{◌≡◌, false, List, [], ℕ, ◌+◌, ◌-◌, ◌*◌, ◌≤◌, length}
+use Rattle.std.specs.Prelude.{◌≡◌, false, List, [], ℕ, ◌+◌, ◌-◌, ◌*◌, ◌≤◌, length, Result, Ok, Err}
+use Rattle.texts.specs.declared.place.Place.{Place}
+use Rattle.texts.specs.declared.refusal.Refused.{Refused}
 use Rattle.texts.specs.Places.{places_in}
 use Rattle.meaning.specs.Rules.{Bytes, Term, Atom}
 use Rattle.meaning.specs.Values.{Value}
@@ -7,10 +9,8 @@ use Rattle.grammar.specs.Sizes.{most_heads}
 use Rattle.tables.specs.Layout.{literal_stride, rule_rows}
 use Rattle.tables.specs.Stored.{Kept}
 use Rattle.tables.specs.Coded.{HeadsCoded}
-use Rattle.syntax.specs.declared.token.Progress.{Progress}
-use Rattle.syntax.specs.declared.token.TokenRead.{TokenRead}
 use Rattle.syntax.specs.Text.{token_read}
-use Rattle.syntax.specs.Fills.{Fills}
+use Rattle.syntax.specs.Fills.{Goes, Stops}
 use Rattle.syntax.specs.Heads.{heads_in}
 use Rattle.rows.specs.Coding.{Codes}
 use Rattle.terms.specs.declared.cursor.Cursor.{Cursor}
@@ -38,12 +38,14 @@ pub record HeadsStand (program output : Bytes) (names literals : List ℕ) (at n
   pub kept : Kept (number * rule_rows * literal_stride) ((number * rule_rows + most_heads) * literal_stride) literals literals'
   pub stands : Codes program output names (next - at) (λ ns. HeadsCoded ns literals' (number * rule_rows) hs) names'
 
--- what has been read so far: as many heads, and the token behind them
-abbrev pub so_far : Progress → TokenRead → ℕ → ℕ → HeadsRead
-so_far progress token count met = record { progress = progress; token = token; count = count; met = met }
+-- heads, which end at a place, and the token there, which is no `|`
+pub record HeadsGo (program output : Bytes) (names literals : List ℕ) (k : Cursor) (number : ℕ) (r : HeadsRead) (names' variables' literals' : List ℕ) : Type 0 where
+  pub place : Place
+  pub reads : Goes (heads_in false k.over program k.at.start) k.over program k.at.start [] place (places_in variables' r.met) (HeadsStand program output names literals k.at.start number place.start r.count names' literals')
+  pub is_token : r.token ≡ token_read false program place.start
+  pub no_bar : r.token.kind ≡ 23 → ⊥
 
--- heads, and the token behind them, which is no `|`; or a refusal
-pub record ReadsHeads (program output : Bytes) (names variables literals : List ℕ) (k : Cursor) (number : ℕ) (r : HeadsRead) (names' variables' literals' : List ℕ) : Type 0 where
-  pub reads : Fills (heads_in false k.over program k.at.start) k.over program k.at.start [] r.progress (places_in variables' r.met) (HeadsStand program output names literals k.at.start number r.progress.place.start r.count names' literals')
-  pub is_token : r.progress.code ≡ 0 → r.token ≡ token_read false program r.progress.place.start
-  pub no_bar : r.progress.code ≡ 0 → r.token.kind ≡ 23 → ⊥
+-- heads, or a refusal
+abbrev pub ReadsHeads : Bytes → Bytes → List ℕ → List ℕ → Cursor → ℕ → Result HeadsRead Refused → List ℕ → List ℕ → List ℕ → Type 0
+ReadsHeads program output names literals k number (Ok r) names' variables' literals' = HeadsGo program output names literals k number r names' variables' literals'
+ReadsHeads program output names literals k number (Err e) names' variables' literals' = Stops (heads_in false k.over program k.at.start) program k.at.start [] e

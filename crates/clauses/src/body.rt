@@ -2,47 +2,24 @@
 ghost use Rattle.std.specs.Prelude.{◌≡◌, ◌+◌, ◌*◌, ◌≤◌, length};
 ghost use Rattle.tables.specs.Stored.{with_row};
 ghost use Rattle.tables.specs.Layout.{literal_stride};
-ghost use Rattle.clauses.specs.Bodies.{stopped_body, gone_body, ReadyBody, FillsBody};
+ghost use Rattle.clauses.specs.Bodies.{ReadyBody, FillsBody};
 
 use lexis::kind::DOT;
 use literals::literal::literal_at;
 use syntax::separator::separator_at;
-use syntax::token::Progress;
 use tables::LITERAL;
 use tables::row::put_row;
 use terms::cursor::{Cursor, onward};
 use texts::place::Place;
+use texts::refusal::Refused;
 use texts::sizes::MOST_LITERALS;
 
-// How many literals there are, and how many variables have been met behind them.
+// How many literals there are, the place behind them, and how many variables have been met there.
 #[derive(Clone, Copy)]
 pub struct BodyRead {
-    pub progress: Progress,
     pub count: usize,
+    pub behind: Place,
     pub met: usize,
-}
-
-fn stopped(code: u8, place: Place, met: usize) -> BodyRead
-    ensures { result ≡ stopped_body code place met }
-{
-    BodyRead {
-        progress: Progress { code, place },
-        count: 0,
-        met,
-    }
-}
-
-pub fn gone(count: usize, next: Place, met: usize) -> BodyRead
-    ensures { result ≡ gone_body count next met }
-{
-    BodyRead {
-        progress: Progress {
-            code: 0,
-            place: next,
-        },
-        count,
-        met,
-    }
 }
 
 // The row with a number is the literal's.
@@ -62,7 +39,7 @@ pub fn body_at<'a>(
     literals: &mut [u64],
     cursor: Cursor,
     first: usize,
-) -> BodyRead
+) -> Result<BodyRead, Refused>
     requires { ReadyBody program.now output.now names.old variables.old literals.old cursor first }
     ensures { FillsBody program.now output.now names.old variables.old literals.old cursor first result names.new variables.new literals.new }
 {
@@ -71,21 +48,18 @@ pub fn body_at<'a>(
     let mut count = 0;
     loop {
         let here = onward(cursor, at, MOST_LITERALS <= count, met);
-        let read = literal_at(program, output, names, variables, here);
-        if read.progress.code != 0 {
-            return stopped(read.progress.code, read.progress.place, met);
-        }
-        let row = read.row;
-        put_literal(literals, first + count, row);
+        let read = literal_at(program, output, names, variables, here)?;
+        put_literal(literals, first + count, read.row);
         count += 1;
         met = read.met;
-        let end = separator_at(program, read.progress.place, false, DOT);
-        if end.progress.code != 0 {
-            return stopped(end.progress.code, end.progress.place, met);
-        }
+        let end = separator_at(program, read.behind, false, DOT)?;
+        at = end.behind;
         if end.last {
-            return gone(count, end.progress.place, met);
+            return Ok(BodyRead {
+                count,
+                behind: at,
+                met,
+            });
         }
-        at = end.progress.place;
     }
 }

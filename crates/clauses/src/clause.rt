@@ -1,58 +1,35 @@
 // A rule of a program to its literals' rows: four for its heads, and behind them its body's.
 ghost use Rattle.std.specs.Prelude.{◌≡◌};
 ghost use Rattle.clauses.specs.Heads.{ReadyRule, ReadyHeads};
-ghost use Rattle.clauses.specs.Clauses.{stopped_rule, ended_rule, bodied_rule, FillsRule};
+ghost use Rattle.clauses.specs.Clauses.{bodied_rule, ReadsRule, FillsRule};
 
-use crate::body::{BodyRead, body_at, gone};
+use crate::body::{BodyRead, body_at};
 use crate::heads::{FirstToken, heads_at};
 use lexis::kind::{DOT, END, IF};
-use syntax::token::{Progress, token_at};
-use syntax::word::{OVER, WRONG};
+use syntax::token::token_at;
 use tables::ROWS;
 use terms::cursor::{Cursor, onward};
-use texts::place::{Place, TEXT_START, past};
+use texts::place::{Place, past};
+use texts::refusal::{Refusal, Refused};
 use texts::sizes::MOST_HEADS;
 
-// A rule: how many heads it has, how many literals in its body, and how many variables. Where `ended`, there is none, because the text ends.
+// A rule: how many heads it has, how many literals in its body, the place behind its dot, and how many variables it has.
 #[derive(Clone, Copy)]
 pub struct RuleRead {
-    pub progress: Progress,
-    pub ended: bool,
     pub heads: usize,
     pub count: usize,
+    pub behind: Place,
     pub met: usize,
 }
 
-fn stopped(code: u8, place: Place) -> RuleRead
-    ensures { result ≡ stopped_rule code place }
-{
-    RuleRead {
-        progress: Progress { code, place },
-        ended: false,
-        heads: 0,
-        count: 0,
-        met: 0,
-    }
-}
-
-fn ended() -> RuleRead
-    ensures { result ≡ ended_rule }
-{
-    let mut read = stopped(0, TEXT_START);
-    read.ended = true;
-    read
-}
-
-// The rule whose body has been read, or was refused.
+// The rule with as many heads and a body.
 fn bodied(heads: usize, body: BodyRead) -> RuleRead
     ensures { result ≡ bodied_rule heads body }
 {
-    let progress = body.progress;
     RuleRead {
-        progress,
-        ended: false,
         heads,
         count: body.count,
+        behind: body.behind,
         met: body.met,
     }
 }
@@ -66,28 +43,33 @@ fn with_heads<'a>(
     literals: &mut [u64],
     cursor: Cursor,
     start: FirstToken,
-) -> RuleRead
+) -> Result<RuleRead, Refused>
     requires { ReadyHeads program.now output.now names.old variables.old literals.old cursor start }
-    ensures { FillsRule program.now output.now names.old variables.old literals.old cursor start.number result names.new variables.new literals.new }
+    ensures { ReadsRule program.now output.now names.old variables.old literals.old cursor start.number result names.new variables.new literals.new }
 {
-    let heads = heads_at(program, output, names, variables, literals, cursor, start);
-    if heads.progress.code != 0 {
-        return stopped(heads.progress.code, heads.progress.place);
-    }
+    let heads = heads_at(program, output, names, variables, literals, cursor, start)?;
     let token = heads.token;
     if token.kind == DOT {
-        return bodied(heads.count, gone(0, past(token.place), heads.met));
+        return Ok(RuleRead {
+            heads: heads.count,
+            count: 0,
+            behind: past(token.place),
+            met: heads.met,
+        });
     }
     if token.kind != IF {
-        return stopped(WRONG, token.place);
+        return Err(Refused {
+            refusal: Refusal::Misplaced,
+            place: token.place,
+        });
     }
     let behind = onward(cursor, past(token.place), false, heads.met);
     let first = start.number * ROWS + MOST_HEADS;
-    let body = body_at(program, output, names, variables, literals, behind, first);
-    bodied(heads.count, body)
+    let body = body_at(program, output, names, variables, literals, behind, first)?;
+    Ok(bodied(heads.count, body))
 }
 
-// The rule with a number where the cursor stands, with its dot.
+// The rule with a number where the cursor stands, with its dot; none where the text ends.
 pub fn rule_at<'a>(
     program: &'a [u8],
     output: &'a [u8],
@@ -96,23 +78,27 @@ pub fn rule_at<'a>(
     literals: &mut [u64],
     cursor: Cursor,
     number: usize,
-) -> RuleRead
+) -> Result<Option<RuleRead>, Refused>
     requires { ReadyRule program.now output.now names.old variables.old literals.old cursor number }
     ensures { FillsRule program.now output.now names.old variables.old literals.old cursor number result names.new variables.new literals.new }
 {
     let token = token_at(program, cursor.at, false);
     if token.kind == END {
-        return ended();
+        return Ok(None);
     }
     if token.kind != IF {
         let start = FirstToken { number, token };
-        return with_heads(program, output, names, variables, literals, cursor, start);
+        let rule = with_heads(program, output, names, variables, literals, cursor, start)?;
+        return Ok(Some(rule));
     }
     if cursor.over {
-        return stopped(OVER, token.place);
+        return Err(Refused {
+            refusal: Refusal::OverSize,
+            place: token.place,
+        });
     }
     let first = number * ROWS + MOST_HEADS;
     let behind = onward(cursor, past(token.place), false, 0);
-    let body = body_at(program, output, names, variables, literals, behind, first);
-    bodied(0, body)
+    let body = body_at(program, output, names, variables, literals, behind, first)?;
+    Ok(Some(bodied(0, body)))
 }

@@ -1,15 +1,15 @@
 // The heads of a rule, atoms with `|` between them, to their rows.
-ghost use Rattle.std.specs.Prelude.{◌≡◌};
-ghost use Rattle.clauses.specs.Heads.{so_far, ReadyHeads, ReadsHeads};
+ghost use Rattle.clauses.specs.Heads.{ReadyHeads, ReadsHeads};
 
 use crate::body::put_literal;
 use atoms::atom::atom_at;
 use lexis::kind::BAR;
 use rows::literal::atom_row;
-use syntax::token::{Progress, TokenRead, token_at};
+use syntax::token::{TokenRead, token_at};
 use tables::{HEAD, ROWS};
 use terms::cursor::{Cursor, onward};
 use texts::place::past;
+use texts::refusal::Refused;
 use texts::sizes::MOST_HEADS;
 
 // The first token of the rule with a number.
@@ -22,21 +22,9 @@ pub struct FirstToken {
 // How many heads there are, how many variables have been met behind them, and the token there, which is no `|`.
 #[derive(Clone, Copy)]
 pub struct HeadsRead {
-    pub progress: Progress,
     pub token: TokenRead,
     pub count: usize,
     pub met: usize,
-}
-
-fn so_far(progress: Progress, token: TokenRead, count: usize, met: usize) -> HeadsRead
-    ensures { result ≡ so_far progress token count met }
-{
-    HeadsRead {
-        progress,
-        token,
-        count,
-        met,
-    }
 }
 
 // The heads of the rule whose first token stands at the cursor: they have the first rows of its number.
@@ -48,25 +36,25 @@ pub fn heads_at<'a>(
     literals: &mut [u64],
     cursor: Cursor,
     start: FirstToken,
-) -> HeadsRead
+) -> Result<HeadsRead, Refused>
     requires { ReadyHeads program.now output.now names.old variables.old literals.old cursor start }
-    ensures { ReadsHeads program.now output.now names.old variables.old literals.old cursor start.number result names.new variables.new literals.new }
+    ensures { ReadsHeads program.now output.now names.old literals.old cursor start.number result names.new variables.new literals.new }
 {
     let mut here = cursor;
     let mut first = start.token;
     let mut count = 0;
     loop {
-        let read = atom_at(program, output, program, names, variables, here, first);
-        let progress = read.progress;
-        if progress.code != 0 {
-            return so_far(progress, first, count, read.met);
-        }
-        let codes = read.codes;
-        put_literal(literals, start.number * ROWS + count, atom_row(HEAD, codes));
+        let read = atom_at(program, output, program, names, variables, here, first)?;
+        let row = atom_row(HEAD, read.codes);
+        put_literal(literals, start.number * ROWS + count, row);
         count += 1;
-        let token = token_at(program, progress.place, false);
+        let token = token_at(program, read.behind, false);
         if token.kind != BAR {
-            return so_far(progress, token, count, read.met);
+            return Ok(HeadsRead {
+                token,
+                count,
+                met: read.met,
+            });
         }
         here = onward(cursor, past(token.place), MOST_HEADS <= count, read.met);
         first = token_at(program, here.at, false);

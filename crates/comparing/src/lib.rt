@@ -11,6 +11,7 @@ ghost use Rattle.comparing.specs.Compared.{Compared};
 use codes::{FIRST_NAME, FIRST_STRING, LESS};
 
 // The first code of the kind: names, or strings.
+#[tactic(auto, unfolding(codes::specs::Domains::kind_start))]
 fn kind_start(code: u64) -> u64
     ensures { result ≡ kind_start code }
 {
@@ -29,6 +30,7 @@ fn place_of(code: u64) -> u64
 }
 
 // A name's or a string's code, in a list of so many.
+#[tactic(auto, unfolding(codes::specs::Domains::is_text))]
 fn is_text(count: usize, code: u64) -> bool
     ensures { result ≡ is_text count code }
 {
@@ -39,6 +41,7 @@ fn is_text(count: usize, code: u64) -> bool
 }
 
 // Two names or two strings.
+#[tactic(auto, unfolding(codes::specs::Domains::two_texts))]
 fn two_texts(count: usize, first: u64, second: u64) -> bool
     ensures { result ≡ two_texts count first second }
 {
@@ -56,7 +59,7 @@ fn rank_of(ranks: &[u32], code: u64) -> u64
     requires { is_text (length ranks.now) code ≡ true }
     ensures { result ≡ get_or ranks.now (place_of code) 0 }
 {
-    ranks[place_of(code) as usize] as u64
+    u64::from(ranks[place_of(code) as usize])
 }
 
 // Two codes of values. Numbers are told first, as they are compared most.

@@ -1,7 +1,7 @@
 -- The loop over the facts of a line: those before this one have their rows and their places, and what lies ahead of them is what lies ahead
 -- of the line.
 use mathlib.Core.Path.{◌≡◌, refl, ap, ap₂, subst, ◌∙◌, sym as inv}
-use mathlib.Core.Bool.{Bool, true, false, cond, true≢false, false≢true}
+use mathlib.Core.Bool.{Bool, true, false, cond}
 use mathlib.Core.Option.{some}
 use mathlib.Core.List.{List, [], ◌∷◌, ◌++◌}
 use Prim.Native.Nat.{ℕ, suc, ◌+◌, ◌*◌, ◌-◌, ◌≤◌, ◌<◌}
@@ -11,7 +11,9 @@ use lib.Dec.{leb, ltb, eqb}
 use lib.ListN.{length, get_or, set, length-set, length-take, length-drop}
 use lib.Seq.{take-suc-set, take-set-le, drop-set-lt, get_or-set_same, get_or-set_other}
 use borrow.Author.Tests.{eqb-true, eqb-false, ltb-true, ltb-false, leb-false}
+use Rattle.std.specs.Prelude.{Ok, Option}
 use Rattle.texts.specs.declared.place.Place.{Place}
+use Rattle.texts.specs.declared.refusal.Refused.{Refused}
 use Rattle.texts.specs.Place.{text_start, with_len, Stands as PlaceStands}
 use Rattle.texts.specs.Parts.{part}
 use Rattle.reading.specs.Reading.{Placed, Answer}
@@ -50,11 +52,11 @@ use Rattle.names.proofs.Standing.{in_output, own_length}
 use Rattle.rows.specs.Growth.{Room, Source, Grows}
 use Rattle.rows.specs.Coding.{CodedAtom}
 use Rattle.rows.proofs.Growth.{grows_none, grows_then, room_after, keeps_facts}
+use Rattle.terms.specs.declared.cursor.Cursor.{Cursor}
 use Rattle.terms.specs.Cursors.{ReadyCursor}
 use Rattle.factline.specs.declared.fact.FactRead.{FactRead}
-use Rattle.factline.specs.declared.line.FactsRead.{FactsRead}
-use Rattle.factline.specs.Facts.{FactStands, ReadsFact, read, ended, stopped}
-use Rattle.factline.specs.Lines.{most_facts, Puttable, Put, Fillable, Listed, Holds, Filled, FillsLine, whole, refuses, FillsRows, facts_read}
+use Rattle.factline.specs.Facts.{FactGoes, LineEnds, FactStops, ReadsFact}
+use Rattle.factline.specs.Lines.{most_facts, Puttable, Put, Fillable, Listed, Holds, Filled, LineRefused, RowsHeld}
 use Rattle.factline.proofs.FactRows.{as_atom, FactStored, fact_stored, same_arguments, facts_with}
 
 -- ---- a table of places
@@ -91,10 +93,6 @@ listed_more facts n before l p room v e =
       kept = kept_then (kept_wider p.kept 0 (n + 1) (omega arith) (omega arith)) (kept_wider changed 0 (n + 1) (omega arith) (omega arith));
     }
 
--- the predicates of all of them
-pub listed_all : (facts : List ℕ) (n m : ℕ) (before l : List ℕ) → Listed facts m before l → m ≡ n → Listed facts n before l
-listed_all facts n m before l p e = subst (λ (k : ℕ). Listed facts k before l) e p
-
 -- ---- the place of a fact, and the atom of its tree
 
 dot_ends : (final : Place) (ts : List (Placed Place Token)) (p : Place) → dot_at ts ≡ some p → dot_end final ts ≡ p.start + p.len
@@ -111,6 +109,12 @@ unfolding rule_for heads_for fact_rule
 atom_meant x = let e : atom_for [] x ∷ [] ≡ as_atom (fact_for (fact (head x))) ∷ [] = ap (λ (m : MeantRule Value). m.heads) (fact_is_rule (fact (head x))) in cc
 
 -- ---- the loop
+
+-- what a fact's reader answers, by where the cursor stands and what was read
+pub seen : (program output text : Bytes) (names : List ℕ) {k k' : Cursor} → k ≡ k' → {x y : Option FactRead} → x ≡ y → (names' : List ℕ) → ReadsFact program output names k.over text k.at.start (Ok x) names' → ReadsFact program output names k'.over text k'.at.start (Ok y) names'
+seen program output text names {k' = k'} e {x = x} q names' h =
+    subst (λ (z : Option FactRead). ReadsFact program output names k'.over text k'.at.start (Ok z) names') q
+    (subst (λ (z : Cursor). ReadsFact program output names z.over text z.at.start (Ok x) names') e h)
 
 pub record Going (program output text : Bytes) (base : ℕ) (names₀ facts₀ starts₀ lengths₀ : List ℕ) (at : Place) (n : ℕ) (names variables facts starts lengths : List ℕ) : Type 0 where
   pub few : n ≤ most_facts
@@ -172,129 +176,106 @@ module _ (program output : Bytes) (line : Place) (text : Bytes) (et : text ≡ p
         long = let l = g.room_for_variables in omega arith;
       }
 
-  module _ (r : FactRead) (names' : List ℕ) (gr : ReadsFact program output names (leb 1_024 n) text at.start r names') where
-    place : RulePlace true (leb 1_024 n)
-    unfolding too_many
-    place = record { rules = g.trees; size = rw g.size (too_many_next 1_024 n) }
+  place : RulePlace true (leb 1_024 n)
+  unfolding too_many
+  place = record { rules = g.trees; size = rw g.size (too_many_next 1_024 n) }
 
-    on_line : (a : Answer Place (Program true)) → behind_rules true text empty 0 ≡ a → ReadAs true (part output line) a
-    on_line a e = subst (λ (b : Bytes). ReadAs true b a) et (reading_of true text a e)
+  on_line : (a : Answer Place (Program true)) → behind_rules true text empty 0 ≡ a → ReadAs true (part output line) a
+  on_line a e = subst (λ (b : Bytes). ReadAs true b a) et (reading_of true text a e)
 
-    pub line_stops : (r.progress.code ≡ 0 → ⊥) → (w : FactsRead) → w ≡ facts_read r.progress.code r.progress.place 0 → FillsRows program output line names₀ facts₀ starts₀ lengths₀ w names' facts starts lengths
+  pub line_stops : (e : Refused) → FactStops (leb 1_024 n) text at.start e → LineRefused output line e
+  unfolding place
+  line_stops e w = record { refuses = w.refuses; reads = on_line _ (g.walks ∙ w.answer place) }
+
+  -- at the end all facts have their rows
+  filled : (predicates predicates' : List ℕ) → Listed facts n predicates predicates' → Filled program output line g.trees names₀ facts₀ predicates starts₀ lengths₀ n names facts predicates' starts lengths
+  filled predicates predicates' h =
+      record {
+        size = inv g.size;
+        grows = grows_then program output g.grows line.len (grows_none program output names 0 g.grows.in_order) (let w = g.placed.inside in let l = no_longer in omega arith);
+        table = record { long = let l = g.facts_kept.long in let k = g.few in let y = ask.facts_long in omega arith; few = g.few; ground = g.ground };
+        stands = g.stands;
+        are_predicates = h.are_predicates;
+        facts_kept = g.facts_kept;
+        predicates_kept = h.kept;
+        starts_hold = subst (λ (b : Bytes). Holds (λ k. line.start + (sentence true b k).start) n starts₀ starts) et g.starts_hold;
+        lengths_hold = subst (λ (b : Bytes). Holds (λ k. (sentence true b k).len) n lengths₀ lengths) et g.lengths_hold;
+      }
+
+  pub line_ends : (names' : List ℕ) → LineEnds names text at.start names' → RowsHeld program output line names₀ facts₀ starts₀ lengths₀ n names' facts starts lengths
+  line_ends names' w = rw w.same_names (record { few = g.few; held = λ predicates predicates' h. record { trees = g.trees; reads = on_line _ (g.walks ∙ w.answer g.trees); filled = filled predicates predicates' h } })
+
+  -- else another fact stands here
+  module _ (r : FactRead) (names' : List ℕ) (w : FactGoes program output names (leb 1_024 n) text at.start r names') where
+    pub facts_room : n < most_facts
+    facts_room = leb-false 1_024 n w.kept
+
+    walks : behind_rules true text empty 0 ≡ behind_rules true text (g.trees then fact (head w.atom)) r.behind.start
     unfolding place
-    line_stops ne w ew = rw ew (record { few = omega arith; fills = λ predicates predicates' h. go predicates predicates' gr })
-      where
-        go : (predicates predicates' : List ℕ) → ReadsFact program output names (leb 1_024 n) text at.start r names' → FillsLine program output line names₀ facts₀ predicates starts₀ lengths₀ (facts_read r.progress.code r.progress.place 0) names' facts predicates' starts lengths
-        go predicates predicates' (read c d o x s q) = absurd (ne c)
-        go predicates predicates' (ended c d k q) = absurd (ne c)
-        go predicates predicates' (stopped c q) = refuses c refl (on_line _ (g.walks ∙ q place))
+    walks = g.walks ∙ w.ahead place
 
-    -- at the end all facts have their rows
-    module _ (e : r.progress.code ≡ 0) where
-      pub line_ends : r.ended ≡ true → (w : FactsRead) → w ≡ facts_read 0 text_start n → FillsRows program output line names₀ facts₀ starts₀ lengths₀ w names' facts starts lengths
-      line_ends z w ew = rw ew (record { few = g.few; fills = λ predicates predicates' h. go predicates predicates' h gr })
+    ends_at : dot_end (end_of text) (placed_from true text at.start) ≡ r.behind.start
+    ends_at = dot_ends (end_of text) (placed_from true text at.start) w.stands.dot w.stands.dot_is ∙ inv w.stands.ends
+
+    its_place : sentence true text n ≡ with_len (token_read true text at.start).place (r.behind.start - r.start)
+    its_place =
+        inv (reached_sentence true text n at.start g.reached)
+        ∙ first_to_dot true text at.start (token_read true text at.start) refl w.stands.some_token
+        ∙ ap₂ (λ (a b : ℕ). with_len (token_read true text at.start).place (b - a)) (inv w.stands.start) ends_at
+
+    its_start : r.start ≡ (sentence true text n).start
+    its_start = w.stands.start ∙ inv (ap (λ (p : Place). p.start) its_place)
+
+    forward : r.start ≤ r.behind.start
+    forward = let s = start_before true text at.start (token_read true text at.start) refl w.stands.some_token in let a = w.stands.start in let b = ends_at in omega arith
+
+    pub puttable : Puttable facts starts lengths n line.start r
+    puttable =
+        let m = facts_room in
+        record {
+          long = let l = g.facts_kept.long in let y = ask.facts_long in omega arith;
+          starts_long = let l = g.starts_hold.same_size in let y = ask.starts_long in omega arith;
+          lengths_long = let l = g.lengths_hold.same_size in let y = ask.lengths_long in omega arith;
+          number_small = m;
+          forward = forward;
+          small = let i = ask.inside in let o = ask.room.in_order.output_size in let q = w.stands.placed.inside in let l = no_longer in omega arith;
+        }
+
+    module _ (facts' starts' lengths' : List ℕ) (put : Put facts starts lengths n line.start r facts' starts' lengths') where
+      its_row : FactStored (names_of program output names') facts n (fact_for (fact (head w.atom))) facts'
+      its_row = fact_stored (names_of program output names') facts n puttable.long r.codes put.row put.is_row put.nine facts' put.facts_so (fact_for (fact (head w.atom))) (subst (CodedAtom (names_of program output names') r.codes) (atom_meant w.atom) w.stands.codes.coded)
+
+      grounds : (k : ℕ) → k < n + 1 → (v : ℕ) → In v (fact_arguments facts' k) → no_value < v
+      grounds k h v m = go (eqb k n) refl
         where
-          filled : (predicates predicates' : List ℕ) → Listed facts n predicates predicates' → Filled program output line g.trees names₀ facts₀ predicates starts₀ lengths₀ n names facts predicates' starts lengths
-          filled predicates predicates' h =
-              record {
-                size = inv g.size;
-                grows = grows_then program output g.grows line.len (grows_none program output names 0 g.grows.in_order) (let w = g.placed.inside in let l = no_longer in omega arith);
-                table = record { long = let l = g.facts_kept.long in let k = g.few in let y = ask.facts_long in omega arith; few = g.few; ground = g.ground };
-                stands = g.stands;
-                are_predicates = h.are_predicates;
-                facts_kept = g.facts_kept;
-                predicates_kept = h.kept;
-                starts_hold = subst (λ (b : Bytes). Holds (λ k. line.start + (sentence true b k).start) n starts₀ starts) et g.starts_hold;
-                lengths_hold = subst (λ (b : Bytes). Holds (λ k. (sentence true b k).len) n lengths₀ lengths) et g.lengths_hold;
-              }
-
-          go : (predicates predicates' : List ℕ) → Listed facts n predicates predicates' → ReadsFact program output names (leb 1_024 n) text at.start r names' → FillsLine program output line names₀ facts₀ predicates starts₀ lengths₀ (facts_read 0 text_start n) names' facts predicates' starts lengths
-          go predicates predicates' h (read c d o x s q) = absurd (false≢true (inv d ∙ z))
-          go predicates predicates' h (ended c d k q) = rw k (whole refl refl g.trees (on_line _ (g.walks ∙ q g.trees)) (filled predicates predicates' h))
-          go predicates predicates' h (stopped c q) = absurd (omega arith)
-
-      -- else another fact stands here
-      module _ (z : r.ended ≡ false) where
-        record Next : Type 0 where
-          pub tree_of : Atom true
-          pub stands : FactStands program output names text at.start tree_of r names'
-          pub room : n < most_facts
-          pub walks : behind_rules true text empty 0 ≡ behind_rules true text (g.trees then fact (head tree_of)) r.progress.place.start
-
-        next : Next
-        unfolding place
-        next = go gr
-          where
-            go : ReadsFact program output names (leb 1_024 n) text at.start r names' → Next
-            go (read c d o x s q) = record { tree_of = x; stands = s; room = leb-false 1_024 n o; walks = g.walks ∙ q place }
-            go (ended c d k q) = absurd (true≢false (inv d ∙ z))
-            go (stopped c q) = absurd (omega arith)
-
-        pub facts_room : n < most_facts
-        facts_room = next.room
-
-        ends_at : dot_end (end_of text) (placed_from true text at.start) ≡ r.progress.place.start
-        ends_at = dot_ends (end_of text) (placed_from true text at.start) next.stands.dot next.stands.dot_is ∙ inv next.stands.ends
-
-        its_place : sentence true text n ≡ with_len (token_read true text at.start).place (r.progress.place.start - r.start)
-        its_place =
-            inv (reached_sentence true text n at.start g.reached)
-            ∙ first_to_dot true text at.start (token_read true text at.start) refl next.stands.some_token
-            ∙ ap₂ (λ (a b : ℕ). with_len (token_read true text at.start).place (b - a)) (inv next.stands.start) ends_at
-
-        its_start : r.start ≡ (sentence true text n).start
-        its_start = next.stands.start ∙ inv (ap (λ (p : Place). p.start) its_place)
-
-        forward : r.start ≤ r.progress.place.start
-        forward = let s = start_before true text at.start (token_read true text at.start) refl next.stands.some_token in let a = next.stands.start in let b = ends_at in omega arith
-
-        pub puttable : Puttable facts starts lengths n line.start r
-        puttable =
-            let m = facts_room in
-            record {
-              long = let l = g.facts_kept.long in let y = ask.facts_long in omega arith;
-              starts_long = let l = g.starts_hold.same_size in let y = ask.starts_long in omega arith;
-              lengths_long = let l = g.lengths_hold.same_size in let y = ask.lengths_long in omega arith;
-              number_small = m;
-              forward = forward;
-              small = let i = ask.inside in let o = ask.room.in_order.output_size in let w = next.stands.placed.inside in let l = no_longer in omega arith;
-            }
-
-        module _ (facts' starts' lengths' : List ℕ) (put : Put facts starts lengths n line.start r facts' starts' lengths') where
-          its_row : FactStored (names_of program output names') facts n (fact_for (fact (head next.tree_of))) facts'
-          its_row = fact_stored (names_of program output names') facts n puttable.long r.codes put.row put.is_row put.nine facts' put.facts_so (fact_for (fact (head next.tree_of))) (subst (CodedAtom (names_of program output names') r.codes) (atom_meant next.tree_of) next.stands.codes.coded)
-
-          grounds : (k : ℕ) → k < n + 1 → (v : ℕ) → In v (fact_arguments facts' k) → no_value < v
-          grounds k h v m = go (eqb k n) refl
+          go : (b : Bool) → eqb k n ≡ b → no_value < v
+          go true e = its_row.ground v (rw (eqb-true k n e) at m)
+          go false e =
+              let q = eqb-false k n e in
+              let l : k < n = below q in
+              g.ground k l v (rw (same_arguments facts facts' n its_row.kept k l) at m)
             where
-              go : (b : Bool) → eqb k n ≡ b → no_value < v
-              go true e = its_row.ground v (rw (eqb-true k n e) at m)
-              go false e =
-                  let q = eqb-false k n e in
-                  let l : k < n = below q in
-                  g.ground k l v (rw (same_arguments facts facts' n its_row.kept k l) at m)
-                where
-                  below : (k ≡ n → ⊥) → k < n
-                  below other = omega arith
+              below : (k ≡ n → ⊥) → k < n
+              below other = omega arith
 
-          pub going_on : (variables' : List ℕ) → length names' ≡ length names₀ → length variables' ≡ variables_size → Going program output text line.start names₀ facts₀ starts₀ lengths₀ r.progress.place (n + 1) names' variables' facts' starts' lengths'
-          unfolding facts_for count
-          going_on variables' long long' =
-              let room = facts_room in
-              let y = puttable in
-              record {
-                few = omega arith;
-                trees = g.trees then fact (head next.tree_of);
-                size = ap suc g.size ∙ inv (add-one n);
-                walks = next.walks;
-                placed = next.stands.placed;
-                reached = rw ends_at at (reached_on true text n at.start g.reached);
-                long = long;
-                room_for_variables = long';
-                grows = grows_then program output g.grows r.progress.place.start next.stands.codes.grows (let f = next.stands.forward in omega arith);
-                facts_kept = kept_then (kept_wider g.facts_kept 0 ((n + 1) * fact_stride) (omega arith) (omega arith)) (kept_wider its_row.kept 0 ((n + 1) * fact_stride) (omega arith) (omega arith));
-                ground = grounds;
-                stands = rw (facts_with facts facts' n its_row.kept) (pairwise_append (keeps_facts program output next.stands.codes.grows g.stands) (pair its_row.stands end));
-                starts_hold = rw put.starts_so (holds_more (λ k. line.start + (sentence true text k).start) n starts₀ starts g.starts_hold y.starts_long (line.start + r.start) (ap (λ (i : ℕ). line.start + i) its_start));
-                lengths_hold = rw put.lengths_so (holds_more (λ k. (sentence true text k).len) n lengths₀ lengths g.lengths_hold y.lengths_long (r.progress.place.start - r.start) (inv (ap (λ (p : Place). p.len) its_place)));
-              }
+      pub going_on : (variables' : List ℕ) → length names' ≡ length names₀ → length variables' ≡ variables_size → Going program output text line.start names₀ facts₀ starts₀ lengths₀ r.behind (n + 1) names' variables' facts' starts' lengths'
+      unfolding facts_for count
+      going_on variables' long long' =
+          let room = facts_room in
+          let y = puttable in
+          record {
+            few = omega arith;
+            trees = g.trees then fact (head w.atom);
+            size = ap suc g.size ∙ inv (add-one n);
+            walks = walks;
+            placed = w.stands.placed;
+            reached = rw ends_at at (reached_on true text n at.start g.reached);
+            long = long;
+            room_for_variables = long';
+            grows = grows_then program output g.grows r.behind.start w.stands.codes.grows (let f = w.stands.forward in omega arith);
+            facts_kept = kept_then (kept_wider g.facts_kept 0 ((n + 1) * fact_stride) (omega arith) (omega arith)) (kept_wider its_row.kept 0 ((n + 1) * fact_stride) (omega arith) (omega arith));
+            ground = grounds;
+            stands = rw (facts_with facts facts' n its_row.kept) (pairwise_append (keeps_facts program output w.stands.codes.grows g.stands) (pair its_row.stands end));
+            starts_hold = rw put.starts_so (holds_more (λ k. line.start + (sentence true text k).start) n starts₀ starts g.starts_hold y.starts_long (line.start + r.start) (ap (λ (i : ℕ). line.start + i) its_start));
+            lengths_hold = rw put.lengths_so (holds_more (λ k. (sentence true text k).len) n lengths₀ lengths g.lengths_hold y.lengths_long (r.behind.start - r.start) (inv (ap (λ (p : Place). p.len) its_place)));
+          }

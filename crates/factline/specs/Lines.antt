@@ -1,7 +1,8 @@
 -- A facts line as rows: what the functions that read it promise.
-use Rattle.std.specs.Prelude.{◌≡◌, true, List, ◌∷◌, ℕ, ◌+◌, ◌*◌, ◌-◌, ◌≤◌, ◌<◌, length, take, get_or, set}
+use Rattle.std.specs.Prelude.{◌≡◌, true, List, ◌∷◌, ℕ, ◌+◌, ◌*◌, ◌-◌, ◌≤◌, ◌<◌, length, take, get_or, set, Result, Ok, Err}
 use Rattle.texts.specs.declared.place.Place.{Place}
-use Rattle.texts.specs.Place.{text_start}
+use Rattle.texts.specs.declared.refusal.Refused.{Refused}
+use Rattle.texts.specs.Refusal.{number_of}
 use Rattle.texts.specs.Places.{number_limit}
 use Rattle.texts.specs.Parts.{part}
 use Rattle.reading.specs.Reading.{tree, refused}
@@ -21,7 +22,6 @@ use Rattle.tables.specs.Stored.{with_row, Kept}
 use Rattle.names.specs.Table.{names_of}
 use Rattle.rows.specs.Growth.{Room, Grows}
 use Rattle.factline.specs.declared.fact.FactRead.{FactRead}
-use Rattle.factline.specs.declared.line.FactsRead.{FactsRead}
 
 -- the most facts of a line
 abbrev pub most_facts : ℕ
@@ -35,8 +35,8 @@ pub record Puttable (facts starts lengths : List ℕ) (number base : ℕ) (fact 
   pub starts_long : number < length starts
   pub lengths_long : number < length lengths
   pub number_small : number < most_facts
-  pub forward : fact.start ≤ fact.progress.place.start
-  pub small : base + fact.progress.place.start < number_limit
+  pub forward : fact.start ≤ fact.behind.start
+  pub small : base + fact.behind.start < number_limit
 
 pub record Put (facts starts lengths : List ℕ) (number base : ℕ) (fact : FactRead) (facts' starts' lengths' : List ℕ) : Type 0 where
   pub row : List ℕ
@@ -44,7 +44,7 @@ pub record Put (facts starts lengths : List ℕ) (number base : ℕ) (fact : Fac
   pub nine : length row ≡ fact_stride
   pub facts_so : facts' ≡ with_row facts (number * fact_stride) row
   pub starts_so : starts' ≡ set starts number (base + fact.start)
-  pub lengths_so : lengths' ≡ set lengths number (fact.progress.place.start - fact.start)
+  pub lengths_so : lengths' ≡ set lengths number (fact.behind.start - fact.start)
 
 -- ---- the line
 
@@ -79,15 +79,22 @@ pub record Filled (program output : Bytes) (line : Place) (fs : Program true) (n
   pub starts_hold : Holds (λ k. line.start + (sentence true (part output line) k).start) n starts starts'
   pub lengths_hold : Holds (λ k. (sentence true (part output line) k).len) n lengths lengths'
 
--- some facts, which are so many, and stand in the tables; or a refusal at its place on the line
-pub data FillsLine (program output : Bytes) (line : Place) (names facts predicates starts lengths : List ℕ) (r : FactsRead) (names' facts' predicates' starts' lengths' : List ℕ) : Type 0 where
-  whole : r.code ≡ 0 → r.place ≡ text_start → (fs : Program true) → ReadAs true (part output line) (tree fs) → Filled program output line fs names facts predicates starts lengths r.count names' facts' predicates' starts' lengths' → FillsLine program output line names facts predicates starts lengths r names' facts' predicates' starts' lengths'
-  refuses : 2 ≤ r.code → r.count ≡ 0 → ReadAs true (part output line) (refused r.code r.place) → FillsLine program output line names facts predicates starts lengths r names' facts' predicates' starts' lengths'
+-- so many facts, which stand in the tables
+pub record LineHeld (program output : Bytes) (line : Place) (names facts predicates starts lengths : List ℕ) (n : ℕ) (names' facts' predicates' starts' lengths' : List ℕ) : Type 0 where
+  pub trees : Program true
+  pub reads : ReadAs true (part output line) (tree trees)
+  pub filled : Filled program output line trees names facts predicates starts lengths n names' facts' predicates' starts' lengths'
 
--- the same, once the predicates of so many facts are listed
-pub record FillsRows (program output : Bytes) (line : Place) (names facts starts lengths : List ℕ) (r : FactsRead) (names' facts' starts' lengths' : List ℕ) : Type 0 where
-  pub few : r.count ≤ most_facts
-  pub fills : (predicates predicates' : List ℕ) → Listed facts' r.count predicates predicates' → FillsLine program output line names facts predicates starts lengths r names' facts' predicates' starts' lengths'
+-- a refusal at its place on the line
+pub record LineRefused (output : Bytes) (line : Place) (e : Refused) : Type 0 where
+  pub refuses : 2 ≤ number_of e.refusal
+  pub reads : ReadAs true (part output line) (refused (number_of e.refusal) e.place)
 
-abbrev pub facts_read : ℕ → Place → ℕ → FactsRead
-facts_read code place count = record { code = code; place = place; count = count }
+-- so many facts, which stand in the tables once their predicates are listed
+pub record RowsHeld (program output : Bytes) (line : Place) (names facts starts lengths : List ℕ) (n : ℕ) (names' facts' starts' lengths' : List ℕ) : Type 0 where
+  pub few : n ≤ most_facts
+  pub held : (predicates predicates' : List ℕ) → Listed facts' n predicates predicates' → LineHeld program output line names facts predicates starts lengths n names' facts' predicates' starts' lengths'
+
+abbrev pub FillsRows : Bytes → Bytes → Place → (names facts starts lengths : List ℕ) → Result ℕ Refused → (names' facts' starts' lengths' : List ℕ) → Type 0
+FillsRows program output line names facts starts lengths (Ok n) names' facts' starts' lengths' = RowsHeld program output line names facts starts lengths n names' facts' starts' lengths'
+FillsRows program output line names facts starts lengths (Err e) names' facts' starts' lengths' = LineRefused output line e

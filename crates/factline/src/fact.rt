@@ -1,55 +1,24 @@
 // A fact of a facts line, read as its numbers.
-ghost use Rattle.std.specs.Prelude.{◌≡◌};
-ghost use Rattle.factline.specs.Facts.{no_fact, gone_fact, ReadyFact, ReadsFact};
+ghost use Rattle.factline.specs.Facts.{ReadyFact, ReadsFact};
 
 use atoms::atom::atom_at;
 use lexis::kind::{DOT, END, IF};
 use rows::literal::AtomCodes;
-use syntax::token::{Progress, token_at};
-use syntax::word::WRONG;
+use syntax::token::token_at;
 use terms::cursor::Cursor;
-use texts::place::{Place, TEXT_START, past};
-use texts::sizes::MOST_ARGUMENTS;
+use texts::place::{Place, past};
+use texts::refusal::{Refusal, Refused};
 
-// A fact's numbers, and where its first token starts. Where `ended`, there is none, because the line ends.
+// A fact's numbers, where its first token starts, and the place behind its dot.
 #[derive(Clone, Copy)]
 pub struct FactRead {
-    pub progress: Progress,
-    pub ended: bool,
     pub codes: AtomCodes,
     pub start: usize,
+    pub behind: Place,
 }
 
-// No fact: a refusal, or the line's end.
-fn without(code: u8, place: Place, ended: bool) -> FactRead
-    ensures { result ≡ no_fact code place ended }
-{
-    FactRead {
-        progress: Progress { code, place },
-        ended,
-        codes: AtomCodes {
-            predicate: 0,
-            terms: [0; MOST_ARGUMENTS],
-        },
-        start: 0,
-    }
-}
-
-fn gone(codes: AtomCodes, start: usize, next: Place) -> FactRead
-    ensures { result ≡ gone_fact codes start next }
-{
-    FactRead {
-        progress: Progress {
-            code: 0,
-            place: next,
-        },
-        ended: false,
-        codes,
-        start,
-    }
-}
-
-// The fact where the cursor stands on a line, with its dot. `variables` has room for those of a rule, though a fact has none.
+// The fact where the cursor stands on a line, with its dot; or none, because the line ends. `variables` has room for those of a rule, though a
+// fact has none.
 pub fn fact_at<'a>(
     program: &'a [u8],
     output: &'a [u8],
@@ -57,25 +26,32 @@ pub fn fact_at<'a>(
     names: &mut [u32],
     variables: &mut [u32],
     cursor: Cursor,
-) -> FactRead
+) -> Result<Option<FactRead>, Refused>
     requires { ReadyFact program.now output.now text.now names.old variables.old cursor }
     ensures { ReadsFact program.now output.now names.old cursor.over text.now cursor.at.start result names.new }
 {
     let token = token_at(text, cursor.at, true);
     if token.kind == END {
-        return without(0, TEXT_START, true);
+        return Ok(None);
     }
     if token.kind == IF {
-        return without(WRONG, token.place, false);
+        return Err(Refused {
+            refusal: Refusal::Misplaced,
+            place: token.place,
+        });
     }
-    let read = atom_at(program, output, text, names, variables, cursor, token);
-    if read.progress.code != 0 {
-        return without(read.progress.code, read.progress.place, false);
-    }
+    let read = atom_at(program, output, text, names, variables, cursor, token)?;
     let codes = read.codes;
-    let dot = token_at(text, read.progress.place, true);
+    let dot = token_at(text, read.behind, true);
     if dot.kind != DOT {
-        return without(WRONG, dot.place, false);
+        return Err(Refused {
+            refusal: Refusal::Misplaced,
+            place: dot.place,
+        });
     }
-    gone(codes, token.place.start, past(dot.place))
+    Ok(Some(FactRead {
+        codes,
+        start: token.place.start,
+        behind: past(dot.place),
+    }))
 }

@@ -1,36 +1,34 @@
--- The kind of an answer by value is the kind of the answer that it says.
-use mathlib.Core.Path.{◌≡◌, refl, sym as inv, ap, ◌∙◌}
-use Rattle.promise.specs.Answer.{Fields}
+-- What is said decides the form of the answer by value.
+use mathlib.Core.Path.{◌≡◌, refl, subst}
+use mathlib.Core.List.{List}
+use Prim.Native.Nat.{ℕ}
+use lib.ListN.{take}
+use Rattle.texts.specs.declared.refusal.Refusal.{Refusal}
+use Rattle.texts.specs.Refusal.{number_of}
+use Rattle.derived_set.specs.declared.Derived.{Derived}
 use Rattle.promise.specs.Answer as paper
-use Rattle.fields.specs.declared.answer.Kind.{Kind}
-use Rattle.fields.specs.declared.answer.Kind.TheVariants.{Refused, Accepted, Unsatisfied, Smaller, ClaimedNone, ClaimedUnknown}
+use Rattle.fields.specs.declared.answer.Part.{Part}
 use Rattle.fields.specs.declared.answer.Answer.{Answer}
-use Rattle.fields.specs.Answers.{fields_of, said, Says}
+use Rattle.fields.specs.declared.answer.Answer.TheVariants.{Refused, Accepted, Unsatisfied, Smaller, ClaimedNone, ClaimedUnknown}
+use Rattle.fields.specs.Parts.{part_of}
+use Rattle.fields.specs.Answers.{kept_positions, said}
 
-pub kind_of : paper.Answer → Kind
-kind_of (paper.refused n p) = Refused
-kind_of (paper.accepted n k) = Accepted
-kind_of (paper.unsatisfied r ps) = Unsatisfied
-kind_of (paper.smaller ps) = Smaller
-kind_of paper.claimed_none = ClaimedNone
-kind_of paper.claimed_unknown = ClaimedUnknown
+-- the form of an answer by value that says x
+abbrev pub FormOf : paper.Answer → Answer → Type 0
+FormOf (paper.refused n p) a = (r : Refusal) × (v : Part) × (a ≡ Refused r v) × (number_of r ≡ n) × (part_of v ≡ p)
+FormOf (paper.accepted n k) a = a ≡ Accepted n k
+FormOf (paper.unsatisfied r ps) a = (count : ℕ) × (qs : List ℕ) × (a ≡ Unsatisfied r count qs) × (take count qs ≡ ps)
+FormOf (paper.smaller ps) a = (s : Derived) × (a ≡ Smaller s) × (kept_positions s ≡ ps)
+FormOf paper.claimed_none a = a ≡ ClaimedNone
+FormOf paper.claimed_unknown a = a ≡ ClaimedUnknown
 
-said_kind : (k : Kind) (f : Fields) → kind_of (said k f) ≡ k
-unfolding kind_of
-said_kind Refused f = refl
-said_kind Accepted f = refl
-said_kind Unsatisfied f = refl
-said_kind Smaller f = refl
-said_kind ClaimedNone f = refl
-said_kind ClaimedUnknown f = refl
+own_form : (a : Answer) → FormOf (said a) a
+own_form (Refused r v) = (r, v, refl, refl, refl)
+own_form (Accepted n k) = refl
+own_form (Unsatisfied r count qs) = (count, qs, refl, refl)
+own_form (Smaller s) = (s, refl, refl)
+own_form ClaimedNone = refl
+own_form ClaimedUnknown = refl
 
-pub says_kind : (a : Answer) (x : paper.Answer) → Says a x → a.kind ≡ kind_of x
-says_kind a x s = inv (said_kind a.kind (fields_of a)) ∙ ap kind_of s.says
-
--- what an answer of a kind says
-pub said_as : (a : Answer) (x : paper.Answer) → Says a x → (k : Kind) → a.kind ≡ k → x ≡ said k (fields_of a)
-said_as a x s k e = inv s.says ∙ ap (λ (z : Kind). said z (fields_of a)) e
-
--- an answer that says what a kind says is of that kind
-pub kind_said : (a : Answer) (x : paper.Answer) → Says a x → (k : Kind) (f : Fields) → x ≡ said k f → a.kind ≡ k
-kind_said a x s k f e = says_kind a x s ∙ ap kind_of e ∙ said_kind k f
+pub form_of : (a : Answer) (x : paper.Answer) → said a ≡ x → FormOf x a
+form_of a x e = subst (λ (y : paper.Answer). FormOf y a) e (own_form a)

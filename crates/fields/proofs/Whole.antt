@@ -1,5 +1,5 @@
--- An answer by value is decided by its kind and its fields.
-use mathlib.Core.Path.{◌≡◌, refl, sym, ap, ◌∙◌}
+-- An answer by value is decided by what it says.
+use mathlib.Core.Path.{◌≡◌, refl, sym, ap, ap₂, ◌∙◌}
 use mathlib.Core.List.{List}
 use Prim.Native.Nat.{ℕ, ◌≤◌}
 use native.Mathlib.Decide.{dec_lt}
@@ -9,14 +9,16 @@ use lib.Seq.{get_or-take, ext_get_or}
 use Rattle.grammar.specs.Sizes.{most_literals}
 use Rattle.stages.specs.Parts.{Part}
 use Rattle.derived_set.proofs.Keeping.{well_kept_decided}
-use Rattle.promise.specs.Answer.{Fields}
 use Rattle.fields.specs.declared.answer.Text.{Text}
 use Rattle.fields.specs.declared.answer.Text.TheVariants.{Program, Output}
 use Rattle.fields.specs.declared.answer.Part.{Part as PartValue}
 use Rattle.fields.specs.declared.answer.Answer.{Answer}
+use Rattle.fields.specs.declared.answer.Answer.TheVariants.{Refused, Accepted, Unsatisfied, Smaller, ClaimedNone, ClaimedUnknown}
 use Rattle.fields.specs.Parts.{text_of, part_of}
-use Rattle.fields.specs.Answers.{fields_of, NothingElse}
+use Rattle.fields.specs.Answers.{said, ZerosBehind, WholeSet, NothingElse}
+use Rattle.texts.proofs.Refusals.{number_decides}
 use Rattle.fields.proofs.Kept.{members_decided}
+use Rattle.fields.proofs.Said.{form_of}
 
 -- ---- the part
 
@@ -49,16 +51,17 @@ module _ (m n : ℕ) (ps qs : List ℕ) (few : m ≤ most_literals) (few' : n �
 
 -- ---- the whole answer
 
-pub same_answer : (a b : Answer) → NothingElse a → NothingElse b → a.kind ≡ b.kind → fields_of a ≡ fields_of b → a ≡ b
-same_answer a b p q k f =
-    let number : a.number ≡ b.number = ap (λ (x : Fields). x.number) f in
-    let part : a.part ≡ b.part = part_decides a.part b.part (ap (λ (x : Fields). x.part) f) in
-    let atoms : a.atoms ≡ b.atoms = ap (λ (x : Fields). x.atoms) f in
-    let rounds : a.rounds ≡ b.rounds = ap (λ (x : Fields). x.rounds) f in
-    let rule : a.rule ≡ b.rule = ap (λ (x : Fields). x.rule) f in
-    let taken : take a.count a.positions ≡ take b.count b.positions = ap (λ (x : Fields). x.positions) f in
-    let count : a.count ≡ b.count = count_decided _ _ _ _ p.few q.few p.room q.room taken in
-    let here : a.positions ≡ b.positions = positions_decided _ _ _ _ p.few q.few p.room q.room taken p.behind q.behind in
-    let kept : a.kept ≡ b.kept = well_kept_decided a.kept b.kept (record { count = p.words; fit = p.bits }) (record { count = q.words; fit = q.bits }) p.well_kept q.well_kept (members_decided a.kept b.kept (ap (λ (x : Fields). x.kept) f)) in
-    let whole : ◌≡◌ {A = Answer} (record { kind = a.kind; number = a.number; part = a.part; atoms = a.atoms; rounds = a.rounds; rule = a.rule; count = a.count; positions = a.positions; kept = a.kept }) (record { kind = b.kind; number = b.number; part = b.part; atoms = b.atoms; rounds = b.rounds; rule = b.rule; count = b.count; positions = b.positions; kept = b.kept }) = cc in
-    whole
+pub same_answer : (a b : Answer) → NothingElse a → NothingElse b → said a ≡ said b → a ≡ b
+same_answer (Refused r v) b p q e = let (s, w, is, number, part) = form_of b _ (sym e) in sym (is ∙ ap₂ Refused (number_decides s r number) (part_decides w v part))
+same_answer (Accepted n k) b p q e = sym (form_of b _ (sym e))
+same_answer (Unsatisfied r count ps) b p q e =
+    let (more, qs, is, taken) = form_of b _ (sym e) in
+    let q' : ZerosBehind more qs = rw is at q in
+    let count_is : more ≡ count = count_decided _ _ _ _ q'.few p.few q'.room p.room taken in
+    sym (is ∙ ap₂ (Unsatisfied r) count_is (positions_decided _ _ _ _ q'.few p.few q'.room p.room taken q'.behind p.behind))
+same_answer (Smaller s) b p q e =
+    let (t, is, shown) = form_of b _ (sym e) in
+    let q' : WholeSet t = rw is at q in
+    sym (is ∙ ap Smaller (well_kept_decided t s (record { count = q'.words; fit = q'.bits }) (record { count = p.words; fit = p.bits }) q'.well_kept p.well_kept (members_decided t s shown)))
+same_answer ClaimedNone b p q e = sym (form_of b _ (sym e))
+same_answer ClaimedUnknown b p q e = sym (form_of b _ (sym e))

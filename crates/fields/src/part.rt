@@ -2,17 +2,15 @@
 ghost use Rattle.fields.specs.Parts.{Cut, HandedBack};
 
 use crate::answer::{Part, Text};
-use texts::parts::least;
 use texts::place::Place;
 
 // The bytes of a place, in the text itself; of a place that reaches past the text, those that are there.
 fn cut(text: &[u8], place: Place) -> &[u8]
     ensures { Cut text.now text.entry.ref_ptr place result.now result.ref_ptr }
 {
-    let start = least(place.start, text.len());
-    let length = least(place.len, text.len() - start);
-    let end = start + length;
-    &text[start..end]
+    let start = place.start.min(text.len());
+    let length = place.len.min(text.len() - start);
+    &text[start..start + length]
 }
 
 // The offending part of whichever of the two lent texts holds it.

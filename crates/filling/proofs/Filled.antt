@@ -1,6 +1,7 @@
 -- A part of the store that is written: what stands there then, and that all else is as it was.
 use mathlib.Core.Path.{◌≡◌, sym, ap, ◌∙◌}
 use mathlib.Core.List.{List}
+use Rattle.std.specs.Prelude.{Option, Result}
 use Prim.Native.Nat.{ℕ, ◌+◌, ◌-◌, ◌≤◌}
 use native.Mathlib.Omega.{arith}
 use lib.ListN.{length, take, drop, length-take}
@@ -12,7 +13,7 @@ use Rattle.tables.proofs.Stored.{put_kept_of, put_part_of, kept_part}
 use Rattle.chains.specs.Links.{Linked}
 use Rattle.clashes.specs.declared.Clashing.{Clashing}
 use Rattle.clashes.specs.Clashes.{FirstClash}
-use Rattle.program.specs.declared.ProgramRead.{ProgramRead}
+use Rattle.texts.specs.declared.refusal.Refused.{Refused}
 use Rattle.store.specs.Store.{store_size, facts_in, literals_in, links_in}
 use Rattle.filling.specs.Filling.{facts_size, RulesRead, RulesFilled, FactsFilled}
 
@@ -34,7 +35,7 @@ module _ {a b : ℕ} {store store' : List ℕ} (k : Kept a b store store') where
 
 -- ---- rules, then facts and chains
 
-module _ (program output : Bytes) (names rules store : List ℕ) (r : ProgramRead) (names' rules' store' : List ℕ) (long : length store ≡ store_size) (read : RulesRead program output names rules store r names' rules' store') where
+module _ (program output : Bytes) (names rules store : List ℕ) (r : Result ℕ Refused) (names' rules' store' : List ℕ) (long : length store ≡ store_size) (read : RulesRead program output names rules store r names' rules' store') where
   pub store_long : length store' ≡ store_size
   store_long = read.kept.long ∙ long
 
@@ -59,7 +60,7 @@ module _ (facts : List ℕ) (count : ℕ) (store : List ℕ) (long : length stor
     put : facts_in store' ≡ facts
     put = rw e (put_part_of store 0 facts facts_fit facts_size wide)
 
-    module _ (store'' : List ℕ) (linked : Linked (links_in store'') facts count) (kept' : Kept 75_776 store_size store' store'') (r : Clashing) (clash : (names : List Bytes) → FirstClash names facts count r) where
+    module _ (store'' : List ℕ) (linked : Linked (links_in store'') facts count) (kept' : Kept 75_776 store_size store' store'') (r : Option Clashing) (clash : (names : List Bytes) → FirstClash names facts count r) where
       pub facts_filled : FactsFilled facts count store store'' r
       facts_filled =
           record {

@@ -9,10 +9,11 @@ ghost use Rattle.store.specs.Store.{store_size, links_in};
 ghost use Rattle.filling.specs.Filling.{RulesFillable, RulesRead, RulesFilled, FactsFillable, FactsFilled};
 
 use clashes::{Clashing, first_clash};
+use program::read_program;
 use program::space::rule_table;
-use program::{ProgramRead, read_program};
 use store::{FACTS, LINKS, LITERALS, RULES, STORE, links};
 use tables::row::put_row;
+use texts::refusal::Refused;
 
 // A store in which every number is zero.
 pub fn empty_store() -> [u64; STORE] {
@@ -26,7 +27,7 @@ fn read_rules<'a>(
     names: &mut [u32],
     rules: &mut [u64],
     store: &mut [u64],
-) -> ProgramRead
+) -> Result<usize, Refused>
     requires { RulesFillable program.now output.now names.old store.old × (length rules.old ≡ rules_size) }
     ensures { RulesRead program.now output.now names.old rules.old store.old result names.new rules.new store.new }
 {
@@ -39,7 +40,7 @@ pub fn fill_rules<'a>(
     output: &'a [u8],
     names: &mut [u32],
     store: &mut [u64],
-) -> ProgramRead
+) -> Result<usize, Refused>
     requires { RulesFillable program.now output.now names.old store.old }
     ensures { RulesFilled program.now output.now names.old store.old result names.new store.new }
 {
@@ -57,7 +58,12 @@ fn link_facts(facts: &[u64], predicates: &[u64], count: usize, store: &mut [u64]
 }
 
 // The facts are put into their part, and their chains are built; then the first fact that clashes with an earlier one.
-pub fn fill_facts(facts: &[u64], predicates: &[u64], count: usize, store: &mut [u64]) -> Clashing
+pub fn fill_facts(
+    facts: &[u64],
+    predicates: &[u64],
+    count: usize,
+    store: &mut [u64],
+) -> Option<Clashing>
     requires { FactsFillable facts.now predicates.now count store.old }
     ensures { FactsFilled facts.now count store.old store.new result }
 {

@@ -1,7 +1,7 @@
 // A frame: the words and numbers of its first line, and the bytes behind it.
 #![tactic(auto)]
 
-ghost use Rattle.std.specs.Prelude.{◌≡◌, ◌<◌, ◌≤◌, [], ◌∷◌, ◌++◌, take, drop, IfOk};
+ghost use Rattle.std.specs.Prelude.{◌≡◌, ◌<◌, ◌≤◌, [], ◌∷◌, ◌++◌, take, drop, IfOk, IfSome};
 ghost use Rattle.std.specs.Bool.{OnTrue};
 ghost use Rattle.std.specs.Io.KnownBytes.{Consumes};
 
@@ -19,71 +19,48 @@ pub const MOST_BYTES: u64 = 65600;
 // The most places of the check's buffer.
 pub const MOST_PLACES: u64 = 2048;
 
-// A byte of the input, or its end.
-#[derive(Clone, Copy)]
-struct Next {
-    found: bool,
-    byte: u8,
-}
-
-// How long a frame's first line is, without its newline; or the input has ended before it. A line that is too long, or that the
-// input ends in, is empty, and so of no known form.
-#[derive(Clone, Copy)]
-pub struct Line {
-    pub ended: bool,
-    pub len: usize,
-}
-
-// A number of a line, and where it ends; `good`: it is there, is small enough, and so are those before it.
+// A number of a line, and where it ends.
 #[derive(Clone, Copy)]
 pub struct Number {
-    pub good: bool,
     pub value: u64,
     pub next: usize,
 }
 
-fn next_byte<R: Read>(input: &mut R) -> io::Result<Next>
-    ensures { IfOk result (λ next. OnTrue next.found (Consumes (R.remaining input.old) (R.remaining input.new) (next.byte ∷ []))) }
+// The next byte of the input; none at its end.
+fn next_byte<R: Read>(input: &mut R) -> io::Result<Option<u8>>
+    ensures { IfOk result (λ next. IfSome next (λ byte. Consumes (R.remaining input.old) (R.remaining input.new) (byte ∷ []))) }
 {
     let mut byte = [0u8; 1];
-    let found = read_bytes(input, &mut byte, 1)?;
-    Ok(Next {
-        found,
-        byte: byte[0],
-    })
+    if !read_bytes(input, &mut byte, 1)? {
+        return Ok(None);
+    }
+    Ok(Some(byte[0]))
 }
 
 // Is a newline next?
 pub fn newline<R: Read>(input: &mut R) -> io::Result<bool>
     ensures { IfOk result (λ is. OnTrue is (Consumes (R.remaining input.old) (R.remaining input.new) (10 ∷ []))) }
 {
-    let next = next_byte(input)?;
-    if !next.found {
-        return Ok(false);
+    match next_byte(input)? {
+        Some(byte) => Ok(byte == b'\n'),
+        None => Ok(false),
     }
-    Ok(next.byte == b'\n')
 }
 
-pub fn read_line<R: Read>(input: &mut R, line: &mut [u8; MOST_LINE]) -> io::Result<Line>
-    ensures { IfOk result (λ read. 0 < read.len → Consumes (R.remaining input.old) (R.remaining input.new) (take read.len line.new ++ 10 ∷ [])) }
+// How long a frame's first line is, without its newline; none where the input ends before it. A line that is too long, or that the
+// input ends in, is empty, and so of no known form.
+pub fn read_line<R: Read>(input: &mut R, line: &mut [u8; MOST_LINE]) -> io::Result<Option<usize>>
+    ensures { IfOk result (λ read. IfSome read (λ len. 0 < len → Consumes (R.remaining input.old) (R.remaining input.new) (take len line.new ++ 10 ∷ []))) }
 {
     for len in 0..MOST_LINE {
-        let next = next_byte(input)?;
-        if !next.found {
-            return Ok(Line {
-                ended: len == 0,
-                len: 0,
-            });
+        match next_byte(input)? {
+            None if len == 0 => return Ok(None),
+            None => return Ok(Some(0)),
+            Some(b'\n') => return Ok(Some(len)),
+            Some(byte) => line[len] = byte,
         }
-        if next.byte == b'\n' {
-            return Ok(Line { ended: false, len });
-        }
-        line[len] = next.byte;
     }
-    Ok(Line {
-        ended: false,
-        len: 0,
-    })
+    Ok(Some(0))
 }
 
 // The words of a line of this length.
@@ -93,78 +70,40 @@ pub fn words(line: &[u8; MOST_LINE], len: usize) -> &[u8]
     bytes_in(line, span_from(0, len))
 }
 
-// No number: what is read at a place of the line is of no known form.
-fn nothing(next: usize) -> Number
-    ensures { result.value ≡ 0 }
-{
-    Number {
-        good: false,
-        value: 0,
-        next,
-    }
-}
-
-// The number at a place of a line.
-fn number_at(line: &[u8], at: usize) -> Number {
-    let mut next = at;
+// The number at a place of a line; none where no digit stands there, or where it is over 64 bits.
+fn number_at(line: &[u8], at: usize) -> Option<Number> {
+    let mut number = None;
     let mut value: u64 = 0;
-    while next < line.len() {
+    for next in at..line.len() {
         let byte = line[next];
-        if byte < b'0' {
+        if !byte.is_ascii_digit() {
             break;
         }
-        if b'9' < byte {
-            break;
-        }
-        let digit = (byte - b'0') as u64;
-        if (u64::MAX - digit) / 10 < value {
-            return nothing(next);
-        }
-        value = value * 10 + digit;
-        next += 1;
-    }
-    Number {
-        good: at < next,
-        value,
-        next,
-    }
-}
-
-// The place behind a first word of this length, before any number is read.
-pub fn behind_word(next: usize) -> Number {
-    Number {
-        good: true,
-        value: 0,
-        next,
-    }
-}
-
-// The number, at most so big, behind a blank that follows the number before it.
-pub fn number_behind(line: &[u8], before: Number, most: u64) -> Number
-    ensures { result.value ≤ most }
-{
-    let at = before.next;
-    if !before.good {
-        return nothing(at);
-    }
-    if line.len() <= at {
-        return nothing(at);
-    }
-    if line[at] != b' ' {
-        return nothing(at);
-    }
-    let number = number_at(line, at + 1);
-    if most < number.value {
-        return nothing(at);
+        value = value.checked_mul(10)?.checked_add(u64::from(byte - b'0'))?;
+        number = Some(Number {
+            value,
+            next: next + 1,
+        });
     }
     number
 }
 
+// The number, at most so big, behind a blank at a place of a line.
+pub fn number_behind(line: &[u8], at: usize, most: u64) -> Option<Number>
+    ensures { IfSome result (λ number. number.value ≤ most) }
+{
+    if line.len() <= at || line[at] != b' ' {
+        return None;
+    }
+    let number = number_at(line, at + 1)?;
+    if most < number.value {
+        return None;
+    }
+    Some(number)
+}
+
 // Does the line end with this number?
 pub fn ends_with(line: &[u8], last: Number) -> bool {
-    if !last.good {
-        return false;
-    }
     last.next == line.len()
 }
 

@@ -1,3 +1,2 @@
 pub mod HeadCounts
-pub mod Copies
 pub mod Verdicts

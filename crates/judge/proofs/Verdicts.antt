@@ -3,13 +3,15 @@ use mathlib.Core.Path.{◌≡◌, refl, sym, ap, ◌∙◌, fun_ext}
 use mathlib.Core.Bool.{Bool, true, false, true≢false}
 use mathlib.Core.Option.{none, some}
 use mathlib.Core.Logic.{inl, inr}
-use mathlib.Core.List.{List, [], ◌∷◌, map}
+use mathlib.Core.List.{List, [], ◌∷◌, ◌++◌, map}
 use Prim.Native.Nat.{ℕ, zero, suc, ◌+◌, ◌-◌, ◌≤◌, ◌<◌}
 use native.Mathlib.Omega.{arith}
 use native.Mathlib.Decide.{dec_lt}
-use lib.ListN.{length, get_or, take, drop, replicate}
-use lib.Seq.{drop-cons}
+use lib.ListN.{length, get_or, get_or-append, take, drop, replicate, length-append, length-drop}
+use lib.Seq.{drop-cons, get_or-drop}
+use Rattle.std.proofs.lemmas.List.{get_or-append_right}
 use borrow.Author.Tests.{lt-ltb, le-ltb}
+use Rattle.std.specs.Prelude.{Option, Some, None}
 use Rattle.meaning.specs.Sets.{every}
 use Rattle.meaning.specs.Domain.{Domain}
 use Rattle.meaning.specs.Rules.{Bytes, Fact, Rule, disjunctive}
@@ -37,13 +39,12 @@ use Rattle.matchings.specs.Tables.{Comparing}
 use Rattle.search.specs.declared.Scan.{Scan}
 use Rattle.search.specs.Searched.{stops, stopped, Stops}
 use Rattle.derivation.specs.declared.Limit.{Limit}
-use Rattle.derivation.specs.Rounds.{RoundsOf, rules_for, all_facts, Rounds}
+use Rattle.derivation.specs.Rounds.{RoundsOf, rules_for, all_facts, SomeBroken, LimitOf}
 use Rattle.queue.proofs.Emptied.{cut_length}
-use Rattle.subset_test.specs.declared.Smaller.{Smaller}
 use Rattle.subset_test.specs.Smaller.{told, Tested}
-use Rattle.judge.specs.Judged.{broken_judgement, smaller_judgement, blank, said, Lent, SetShown, Judged, ShowsBroken, ShowsSet, Rejects, JudgedInRange, Copied}
-use Rattle.judge.specs.declared.Kind.TheVariants as kinds
-use Rattle.judge.specs.declared.Kind.TheVariants.{OutOfRange, Unsatisfied, Accepted, Minimal}
+use Rattle.judge.specs.Judged.{broken_judgement, said, Lent, SetShown, Judged, ShowsBroken, ShowsSet, Rejects, JudgedInRange}
+use Rattle.judge.specs.declared.Judgement.TheVariants as judgements
+use Rattle.judge.specs.declared.Judgement.TheVariants.{OutOfRange, Accepted, Minimal}
 use Rattle.judge.specs.declared.Judgement.{Judgement}
 
 -- ---- lists by their places
@@ -52,14 +53,6 @@ part_from : (l : List ℕ) (n k : ℕ) → k + n ≤ length l → take n (drop k
 unfolding from
 part_from l zero k h = refl
 part_from l (suc n) k h = rw (drop-cons l k 0 (omega arith)) (ap (λ (t : List ℕ). get_or l k 0 ∷ t) (part_from l n (suc k) (omega arith)))
-
--- ---- the judgements that code makes of a blank one
-
-pub with_set : (b : Judgement) (set : Derived) → b ≡ blank kinds.Smaller → record { kind = b.kind; rule = b.rule; length = b.length; positions = b.positions; rounds = b.rounds; set = set } ≡ smaller_judgement set
-with_set b set e = rw e refl
-
-pub with_positions : (store : List ℕ) (b : Judgement) (rule long : ℕ) (positions : List ℕ) → b ≡ blank Unsatisfied → long ≡ rule_column (rules_in store) rule positives_column → record { kind = b.kind; rule = rule; length = long; positions = positions; rounds = b.rounds; set = b.set } ≡ broken_judgement store rule positions
-with_positions store b rule long positions e l = rw (e, l) refl
 
 -- ---- how many pass
 
@@ -133,14 +126,14 @@ module _ (names : List Bytes) (P : List (Rule ℕ)) (facts : List ℕ) (n : ℕ)
   long = from_length (fact_at facts) n 0
 
   -- the search for operations that leave the range decides
-  pub judged_over : (rounds : List ℕ) (j : Judgement) → j.kind ≡ OutOfRange → (at : List ℕ) → overflow (codes names) code_in_range P I ≡ some (record { rule = j.rule; at = at }) → Judged names P I rounds rounds j
+  pub judged_over : (rounds : List ℕ) (rule : ℕ) (at : List ℕ) → overflow (codes names) code_in_range P I ≡ some (record { rule = rule; at = at }) → Judged names P I rounds rounds (OutOfRange rule)
   unfolding said Lent SetShown
-  judged_over rounds j k at o = record { says = rw (k, said) (outcome_over names P I j.rule (at, o)); lent = rw (k, Lent) refl; set_shown = rw (k, SetShown) tt }
+  judged_over rounds rule at o = record { says = outcome_over names P I rule (at, o); lent = refl; set_shown = tt }
 
   -- the first broken instance does
   pub judged_broken : overflow (codes names) code_in_range P I ≡ none → (rounds : List ℕ) (j : Judgement) → ShowsBroken names P I j → Judged names P I rounds rounds j
   unfolding said Lent SetShown
-  judged_broken in_range rounds j b = record { says = rw (b.is, said) (outcome_broken names P I in_range j.rule (take j.length j.positions) b.first); lent = rw (b.is, Lent) refl; set_shown = rw (b.is, SetShown) tt }
+  judged_broken in_range rounds j b = rw b.is (record { says = outcome_broken names P I in_range b.rule (take b.long b.positions) b.first; lent = refl; set_shown = tt })
 
   -- the rounds decide
   module _ (single : disjunctive P ≡ false) (in_range : overflow (codes names) code_in_range P I ≡ none) (unbroken : broken (codes names) P I ≡ none) (table table' : List ℕ) (set : Derived) (k : ℕ) (found : RoundsOf (codes names) P I table table' set k) (only_facts : (a : ℕ) → n ≤ a → holds set a ≡ false) (few : n ≤ places) where
@@ -163,26 +156,35 @@ module _ (names : List Bytes) (P : List (Rule ℕ)) (facts : List ℕ) (n : ℕ)
     pub judged_smaller : size set < n → WellKept set → (rounds : List ℕ) (j : Judgement) → ShowsSet names P I set j → Judged names P I rounds rounds j
     unfolding said Lent SetShown
     judged_smaller h w rounds j shows =
-        let e = shows.is in
-        let s = shows.kept in
         let kept : from (holds set) (length I) 0 ≡ map (levels k) I = ap (λ (m : ℕ). from (holds set) m 0) long ∙ from_same (holds set) (λ i. levels k (fact_at facts i)) n 0 (λ i a b. at_place i (omega arith)) ∙ sym (from_map (levels k) (fact_at facts) n 0) in
-        record { says = rw (e, said, s, kept) (rw (← found.is_rounds) at (outcome_smaller names P I in_range unbroken single (rw (← found.is_rounds) (not_whole h)))); lent = rw (e, Lent) refl; set_shown = rw (e, SetShown, s) (record { well_kept = w; none_behind = λ a l. only_facts a (omega (arith, long, l)) }) }
+        rw shows.is (record { says = rw kept (rw (← found.is_rounds) at (outcome_smaller names P I in_range unbroken single (rw (← found.is_rounds) (not_whole h)))); lent = refl; set_shown = record { well_kept = w; none_behind = λ a l. only_facts a (omega (arith, long, l)) } })
 
-    module _ (h : n ≤ size set) (rounds rounds' : List ℕ) (copied : Copied table' rounds rounds') (wide : length table ≡ n) (room : n ≤ length rounds) where
+    module _ (h : n ≤ size set) (rounds rounds' : List ℕ) (put : rounds' ≡ table' ++ drop n rounds) (wide : length table ≡ n) (room : n ≤ length rounds) where
       abbrev round : Fact ℕ → ℕ
       round a = least (λ i. levels i a) k 0
+
+      kept_long : length rounds' ≡ length rounds
+      kept_long = ap length put ∙ simp length-append (omega (arith, found.long, length-drop n rounds))
+
+      there : (i : ℕ) → i < n → get_or rounds' i 0 ≡ get_or table' i 0
+      there i l = ap (λ (xs : List ℕ). get_or xs i 0) put ∙ get_or-append table' (drop n rounds) 0 i (omega (arith, found.long))
+
+      rest : (a : ℕ) → n ≤ a → get_or rounds' a 0 ≡ get_or rounds a 0
+      rest a g =
+          let z : n + (a - n) ≡ a = omega arith in
+          ap (λ (xs : List ℕ). get_or xs a 0) put ∙ get_or-append_right table' (drop n rounds) n a 0 (found.long ∙ wide) g ∙ get_or-drop n rounds (a - n) 0 ∙ ap (λ (i : ℕ). get_or rounds i 0) z
 
       written : take (length I) rounds' ≡ map round I
       written =
           ap (λ (m : ℕ). take m rounds') long
-          ∙ part_from rounds' n 0 (omega (arith, copied.long))
-          ∙ from_same (λ i. get_or rounds' i 0) (λ i. round (fact_at facts i)) n 0 (λ i a b. copied.there i (omega (arith, found.long)) ∙ found.each i (fact_at facts i) (below_fact facts n i (omega arith)) (count_full (holds set) n (omega (arith, sized)) i (omega arith)))
+          ∙ part_from rounds' n 0 (omega (arith, kept_long))
+          ∙ from_same (λ i. get_or rounds' i 0) (λ i. round (fact_at facts i)) n 0 (λ i a b. there i (omega arith) ∙ found.each i (fact_at facts i) (below_fact facts n i (omega arith)) (count_full (holds set) n (omega (arith, sized)) i (omega arith)))
           ∙ sym (from_map round (fact_at facts) n 0)
 
-      pub judged_accepted : (j : Judgement) → j.kind ≡ Accepted → j.rounds ≡ k → Judged names P I rounds rounds' j
+      pub judged_accepted : Judged names P I rounds rounds' (Accepted k)
       unfolding said Lent SetShown
-      judged_accepted j e s =
-          record { says = rw (e, said, s, written) (rw (← found.is_rounds) at (outcome_accepted names P I in_range unbroken single (rw (← found.is_rounds) (whole h)))); lent = rw (e, Lent) (copied.long, λ a g. copied.rest a (omega (arith, long, found.long))); set_shown = rw (e, SetShown) tt }
+      judged_accepted =
+          record { says = rw written (rw (← found.is_rounds) at (outcome_accepted names P I in_range unbroken single (rw (← found.is_rounds) (whole h)))); lent = (kept_long, λ a g. rest a (omega (arith, long))); set_shown = tt }
 
 -- the table that the rounds are worked out in, as code cuts it
 pub cut_wide : (n size : ℕ) → n ≤ size → length {A = ℕ} (take (n - 0) (drop 0 (replicate size 0))) ≡ n
@@ -239,53 +241,54 @@ module _ (ranks store : List ℕ) (scan : Scan) (positions positions' : List ℕ
     broken_none h = whole_broken ∙ at_none h
 
     pub shows_broken : r < scan.total → (j : Judgement) → j ≡ broken_judgement store r positions' → ShowsBroken names (rules_for store scan.total) (all_facts store scan.count) j
-    shows_broken h j e = rw e (record { is = refl; first = broken_at h })
+    shows_broken h j e = record { rule = _; long = _; positions = _; is = e; first = broken_at h }
 
-    pub shows_set : scan.total ≤ r → (set : Derived) (j : Judgement) → j ≡ smaller_judgement set → ShowsSet names (rules_for store scan.total) (all_facts store scan.count) set j
-    shows_set h set j e = rw e (record { is = refl; unbroken = broken_none h; kept = refl })
+    pub shows_set : scan.total ≤ r → (set : Derived) → ShowsSet names (rules_for store scan.total) (all_facts store scan.count) set (judgements.Smaller set)
+    shows_set h set = record { is = refl; unbroken = broken_none h }
 
 -- ---- a candidate that is not accepted
 
-module _ (ranks store : List ℕ) (scan : Scan) (table table' : List ℕ) (limit : Limit) (found : Rounds ranks store scan.count scan.total table table' limit) (few : scan.count ≤ places) (single : disjunctive (rules_for store scan.total) ≡ false) (j : Judgement) (rejects : Rejects ranks store scan limit.set j) (rounds : List ℕ) where
-  -- an instance is broken
-  pub judged_rejected : limit.broken ≡ true → JudgedInRange ranks store scan.count scan.total rounds rounds j
+-- an instance is broken
+module _ (ranks store : List ℕ) (scan : Scan) (set : Derived) (j : Judgement) (rejects : Rejects ranks store scan set j) (rounds : List ℕ) where
+  pub judged_rejected : SomeBroken ranks store scan.count scan.total → JudgedInRange ranks store scan.count scan.total rounds rounds j
   judged_rejected b names c in_range =
       elim (rejects names c) [
         | inl s ↦ judged_broken names (rules_for store scan.total) (facts_in store) scan.count in_range rounds j s
-        | inr s ↦ absurd (found.some_broken names c b s.unbroken)
+        | inr s ↦ absurd (b names c s.unbroken)
       ]
 
-  -- none was met, and a fact is not derived
-  pub judged_short : limit.broken ≡ false → limit.set.size < scan.count → JudgedInRange ranks store scan.count scan.total rounds rounds j
-  judged_short b h names c in_range =
+-- none was met, and a fact is not derived
+module _ (ranks store : List ℕ) (scan : Scan) (table table' : List ℕ) (limit : Limit) (found : LimitOf ranks store scan.count scan.total table table' limit) (few : scan.count ≤ places) (single : disjunctive (rules_for store scan.total) ≡ false) (j : Judgement) (rejects : Rejects ranks store scan limit.set j) (rounds : List ℕ) where
+  pub judged_short : limit.set.size < scan.count → JudgedInRange ranks store scan.count scan.total rounds rounds j
+  judged_short h names c in_range =
       elim (rejects names c) [
         | inl s ↦ judged_broken names (rules_for store scan.total) (facts_in store) scan.count in_range rounds j s
-        | inr s ↦ judged_smaller names (rules_for store scan.total) (facts_in store) scan.count single in_range s.unbroken table table' limit.set limit.rounds (found.limit names c single b s.unbroken) found.only_facts few (omega (arith, found.well_kept)) found.well_kept rounds j s
+        | inr s ↦ judged_smaller names (rules_for store scan.total) (facts_in store) scan.count single in_range s.unbroken table table' limit.set limit.rounds (found.limit names c single s.unbroken) found.only_facts few (omega (arith, found.well_kept)) found.well_kept rounds j s
       ]
 
 -- ---- a candidate all of whose facts are derived
 
-module _ (ranks store : List ℕ) (n total : ℕ) (table table' : List ℕ) (limit : Limit) (found : Rounds ranks store n total table table' limit) (few : n ≤ places) (single : disjunctive (rules_for store total) ≡ false) (unmet : limit.broken ≡ false) (h : n ≤ limit.set.size) (rounds rounds' : List ℕ) (copied : Copied table' rounds rounds') (wide : length table ≡ n) (room : n ≤ length rounds) where
-  pub judged_whole : (j : Judgement) → j.kind ≡ Accepted → j.rounds ≡ limit.rounds → JudgedInRange ranks store n total rounds rounds' j
-  judged_whole j e s names c in_range =
+module _ (ranks store : List ℕ) (n total : ℕ) (table table' : List ℕ) (limit : Limit) (found : LimitOf ranks store n total table table' limit) (few : n ≤ places) (single : disjunctive (rules_for store total) ≡ false) (h : n ≤ limit.set.size) (rounds rounds' : List ℕ) (put : rounds' ≡ table' ++ drop n rounds) (wide : length table ≡ n) (room : n ≤ length rounds) where
+  pub judged_whole : JudgedInRange ranks store n total rounds rounds' (Accepted limit.rounds)
+  judged_whole names c in_range =
       let full : n ≤ size limit.set = omega (arith, found.well_kept) in
       let sized = size_below limit.set n few found.only_facts in
-      let unbroken = found.unbroken names c unmet (count_full (holds limit.set) n (omega (arith, sized))) in
-      judged_accepted names (rules_for store total) (facts_in store) n single in_range unbroken table table' limit.set limit.rounds (found.limit names c single unmet unbroken) found.only_facts few full rounds rounds' copied wide room j e s
+      let unbroken = found.unbroken names c (count_full (holds limit.set) n (omega (arith, sized))) in
+      judged_accepted names (rules_for store total) (facts_in store) n single in_range unbroken table table' limit.set limit.rounds (found.limit names c single unbroken) found.only_facts few full rounds rounds' put wide room
 
 -- ---- a program in which some rule has several heads
 
-module _ (ranks store : List ℕ) (n total : ℕ) (several : disjunctive (rules_for store total) ≡ true) (smaller : Smaller) (found : Tested ranks store n total smaller) (names : List Bytes) (c : Comparing names ranks store total) (in_range : overflow (codes names) code_in_range (rules_for store total) (all_facts store n) ≡ none) (unbroken : broken (codes names) (rules_for store total) (all_facts store n) ≡ none) (rounds : List ℕ) where
+module _ (ranks store : List ℕ) (n total : ℕ) (several : disjunctive (rules_for store total) ≡ true) (names : List Bytes) (c : Comparing names ranks store total) (in_range : overflow (codes names) code_in_range (rules_for store total) (all_facts store n) ≡ none) (unbroken : broken (codes names) (rules_for store total) (all_facts store n) ≡ none) (rounds : List ℕ) where
   tested_long : length (all_facts store n) ≡ n
   tested_long = from_length (fact_at (facts_in store)) n 0
 
-  says_tested : verdict (told smaller n) ≡ outcome (codes names) code_in_range (rules_for store total) (all_facts store n)
-  says_tested = ap verdict (sym (found.says names c)) ∙ outcome_tested names (rules_for store total) (all_facts store n) in_range unbroken several
+  says_tested : (r : Option Derived) → Tested ranks store n total r → verdict (told r n) ≡ outcome (codes names) code_in_range (rules_for store total) (all_facts store n)
+  says_tested r found = ap verdict (sym (found.says names c)) ∙ outcome_tested names (rules_for store total) (all_facts store n) in_range unbroken several
 
-  pub judged_shown : smaller.found ≡ true → Judged names (rules_for store total) (all_facts store n) rounds rounds (smaller_judgement smaller.set)
+  pub judged_shown : (set : Derived) → Tested ranks store n total (Some set) → Judged names (rules_for store total) (all_facts store n) rounds rounds (judgements.Smaller set)
   unfolding said Lent SetShown told
-  judged_shown e = record { says = ap (λ (m : ℕ). verdict (verdicts.smaller (from (holds smaller.set) m 0))) tested_long ∙ rw e at says_tested; lent = refl; set_shown = record { well_kept = found.well_kept; none_behind = λ a l. never_true (holds smaller.set a) (λ t. omega (arith, found.inside a t, tested_long, l)) } }
+  judged_shown set found = record { says = ap (λ (m : ℕ). verdict (verdicts.smaller (from (holds set) m 0))) tested_long ∙ says_tested (Some set) found; lent = refl; set_shown = record { well_kept = found.well_kept; none_behind = λ a l. never_true (holds set a) (λ t. omega (arith, found.inside a t, tested_long, l)) } }
 
-  pub judged_minimal : smaller.found ≡ false → Judged names (rules_for store total) (all_facts store n) rounds rounds (blank Minimal)
+  pub judged_minimal : Tested ranks store n total None → Judged names (rules_for store total) (all_facts store n) rounds rounds Minimal
   unfolding said Lent SetShown told
-  judged_minimal e = record { says = ap (λ (m : ℕ). verdict (accepted m 0 [])) tested_long ∙ rw e at says_tested; lent = refl; set_shown = tt }
+  judged_minimal found = record { says = ap (λ (m : ℕ). verdict (accepted m 0 [])) tested_long ∙ says_tested None found; lent = refl; set_shown = tt }

@@ -1,5 +1,5 @@
 -- What a judgement says, as an outcome of the meaning, and what it does with the lent places.
-use Rattle.std.specs.Prelude.{◌≡◌, false, ◌⊎◌, List, [], map, ℕ, suc, ◌≤◌, ◌<◌, length, get_or, take, replicate}
+use Rattle.std.specs.Prelude.{◌≡◌, false, ◌⊎◌, List, [], map, ℕ, suc, ◌≤◌, length, get_or, take}
 use Rattle.std.proofs.Math.Option.{none, some}
 use Rattle.meaning.specs.Rules.{Bytes, Fact, Rule}
 use Rattle.meaning.specs.Verdicts.{accepted, unsatisfied, smaller}
@@ -10,40 +10,32 @@ use Rattle.tables.specs.Layout.{positives_column}
 use Rattle.tables.specs.Rows.{from, rule_column}
 use Rattle.store.specs.Store.{rules_in}
 use Rattle.derived_set.specs.declared.Derived.{Derived}
-use Rattle.derived_set.specs.Members.{holds, WellKept, no_atoms}
+use Rattle.derived_set.specs.Members.{holds, WellKept}
 use Rattle.matchings.specs.Tables.{Comparing}
 use Rattle.search.specs.declared.Scan.{Scan}
 use Rattle.derivation.specs.Rounds.{rules_for, all_facts}
-use Rattle.judge.specs.declared.Kind.{Kind}
-use Rattle.judge.specs.declared.Kind.TheVariants.{OutOfRange, Unsatisfied, Accepted, Minimal, Smaller}
 use Rattle.judge.specs.declared.Judgement.{Judgement}
+use Rattle.judge.specs.declared.Judgement.TheVariants.{OutOfRange, Unsatisfied, Accepted, Minimal, Smaller}
 
--- every field but the kind is zero
-abbrev pub blank : Kind → Judgement
-blank kind = record { kind = kind; rule = 0; length = 0; positions = replicate 16 0; rounds = 0; set = no_atoms }
-
--- the judgements of a broken instance, and of a smaller set
+-- the judgement of a broken instance
 abbrev pub broken_judgement : List ℕ → ℕ → List ℕ → Judgement
-broken_judgement store rule positions = record { kind = Unsatisfied; rule = rule; length = rule_column (rules_in store) rule positives_column; positions = positions; rounds = 0; set = no_atoms }
-
-abbrev pub smaller_judgement : Derived → Judgement
-smaller_judgement set = record { kind = Smaller; rule = 0; length = 0; positions = replicate 16 0; rounds = 0; set = set }
+broken_judgement store rule positions = Unsatisfied rule (rule_column (rules_in store) rule positives_column) positions
 
 -- beside n atoms and the rounds in the lent places; a rule's number and positions are held from 0, and said from 1
-unfoldable pub said : Kind → Judgement → ℕ → List ℕ → Outcome
-said OutOfRange j n rounds = out_of_range (suc j.rule)
-said Unsatisfied j n rounds = verdict (unsatisfied (suc j.rule) (map suc (take j.length j.positions)))
-said Accepted j n rounds = verdict (accepted n j.rounds (take n rounds))
-said Minimal j n rounds = verdict (accepted n 0 [])
-said Smaller j n rounds = verdict (smaller (from (holds j.set) n 0))
+unfoldable pub said : Judgement → ℕ → List ℕ → Outcome
+said (OutOfRange rule) n rounds = out_of_range (suc rule)
+said (Unsatisfied rule long positions) n rounds = verdict (unsatisfied (suc rule) (map suc (take long positions)))
+said (Accepted k) n rounds = verdict (accepted n k (take n rounds))
+said Minimal n rounds = verdict (accepted n 0 [])
+said (Smaller set) n rounds = verdict (smaller (from (holds set) n 0))
 
 -- only ACCEPTED with rounds writes, and only the first n places
-unfoldable pub Lent : Kind → ℕ → List ℕ → List ℕ → Type 0
-Lent OutOfRange n rounds rounds' = rounds' ≡ rounds
-Lent Unsatisfied n rounds rounds' = rounds' ≡ rounds
-Lent Accepted n rounds rounds' = (length rounds' ≡ length rounds) × ((a : ℕ) → n ≤ a → get_or rounds' a 0 ≡ get_or rounds a 0)
+unfoldable pub Lent : Judgement → ℕ → List ℕ → List ℕ → Type 0
+Lent (OutOfRange rule) n rounds rounds' = rounds' ≡ rounds
+Lent (Unsatisfied rule long positions) n rounds rounds' = rounds' ≡ rounds
+Lent (Accepted k) n rounds rounds' = (length rounds' ≡ length rounds) × ((a : ℕ) → n ≤ a → get_or rounds' a 0 ≡ get_or rounds a 0)
 Lent Minimal n rounds rounds' = rounds' ≡ rounds
-Lent Smaller n rounds rounds' = rounds' ≡ rounds
+Lent (Smaller set) n rounds rounds' = rounds' ≡ rounds
 
 -- a set that is well kept, and has none but the n atoms
 pub record SetBelow (n : ℕ) (s : Derived) : Type 0 where
@@ -51,17 +43,17 @@ pub record SetBelow (n : ℕ) (s : Derived) : Type 0 where
   pub none_behind : (a : ℕ) → n ≤ a → holds s a ≡ false
 
 -- the set of SMALLER is one
-unfoldable pub SetShown : Kind → Judgement → ℕ → Type 0
-SetShown OutOfRange j n = Unit {0}
-SetShown Unsatisfied j n = Unit {0}
-SetShown Accepted j n = Unit {0}
-SetShown Minimal j n = Unit {0}
-SetShown Smaller j n = SetBelow n j.set
+unfoldable pub SetShown : Judgement → ℕ → Type 0
+SetShown (OutOfRange rule) n = Unit {0}
+SetShown (Unsatisfied rule long positions) n = Unit {0}
+SetShown (Accepted k) n = Unit {0}
+SetShown Minimal n = Unit {0}
+SetShown (Smaller set) n = SetBelow n set
 
 pub record Judged (names : List Bytes) (P : List (Rule ℕ)) (I : List (Fact ℕ)) (rounds rounds' : List ℕ) (j : Judgement) : Type 0 where
-  pub says : said j.kind j (length I) rounds' ≡ outcome (codes names) code_in_range P I
-  pub lent : Lent j.kind (length I) rounds rounds'
-  pub set_shown : SetShown j.kind j (length I)
+  pub says : said j (length I) rounds' ≡ outcome (codes names) code_in_range P I
+  pub lent : Lent j (length I) rounds rounds'
+  pub set_shown : SetShown j (length I)
 
 -- ---- over the store, whatever the names
 
@@ -73,21 +65,15 @@ JudgedInRange ranks store count total rounds rounds' j = (names : List Bytes) �
 
 -- the first broken instance; or none is broken, and the judgement has the set
 pub record ShowsBroken (names : List Bytes) (P : List (Rule ℕ)) (I : List (Fact ℕ)) (j : Judgement) : Type 0 where
-  pub is : j.kind ≡ Unsatisfied
-  pub first : broken (codes names) P I ≡ some (record { rule = j.rule; at = take j.length j.positions })
+  pub rule : ℕ
+  pub long : ℕ
+  pub positions : List ℕ
+  pub is : j ≡ Unsatisfied rule long positions
+  pub first : broken (codes names) P I ≡ some (record { rule = rule; at = take long positions })
 
 pub record ShowsSet (names : List Bytes) (P : List (Rule ℕ)) (I : List (Fact ℕ)) (set : Derived) (j : Judgement) : Type 0 where
-  pub is : j.kind ≡ Smaller
+  pub is : j ≡ Smaller set
   pub unbroken : broken (codes names) P I ≡ none
-  pub kept : j.set ≡ set
 
 abbrev pub Rejects : List ℕ → List ℕ → Scan → Derived → Judgement → Type 0
 Rejects ranks store scan set j = (names : List Bytes) → Comparing names ranks store scan.total → ShowsBroken names (rules_for store scan.total) (all_facts store scan.count) j ⊎ ShowsSet names (rules_for store scan.total) (all_facts store scan.count) set j
-
--- ---- copying
-
--- one list at the start of another, which is otherwise as it was
-pub record Copied (source place place' : List ℕ) : Type 0 where
-  pub there : (i : ℕ) → i < length source → get_or place' i 0 ≡ get_or source i 0
-  pub rest : (i : ℕ) → length source ≤ i → get_or place' i 0 ≡ get_or place i 0
-  pub long : length place' ≡ length place

@@ -8,7 +8,7 @@ ghost use Rattle.matchings.specs.Tables.{Tables};
 ghost use Rattle.search.specs.Searched.{Scanning};
 ghost use Rattle.derivation.specs.Rounds.{rules_for};
 ghost use Rattle.subsets.specs.Table.{most_facts};
-ghost use Rattle.judge.specs.Judged.{blank, broken_judgement, smaller_judgement, Copied, Rejects, JudgedInRange, Judges};
+ghost use Rattle.judge.specs.Judged.{broken_judgement, Rejects, JudgedInRange, Judges};
 
 use derived_set::Derived;
 use search::{Scan, first_stop};
@@ -17,52 +17,27 @@ use subset_test::least_smaller;
 
 pub mod several;
 
+// The rule and the positions are from 0.
 #[derive(Clone, Copy)]
-pub enum Kind {
-    OutOfRange,
-    Unsatisfied,
-    Accepted,
+pub enum Judgement {
+    // the first rule in which an operation leaves the range
+    OutOfRange {
+        rule: usize,
+    },
+    // the first broken instance: its rule, and as many positions as `length` says
+    Unsatisfied {
+        rule: usize,
+        length: usize,
+        positions: [u64; 16],
+    },
+    Accepted {
+        rounds: u16,
+    },
     // accepted by the test against every proper subset, which gives no rounds
     Minimal,
-    Smaller,
-}
-
-// The rule and the positions, as many as `length` says, are from 0.
-#[derive(Clone, Copy)]
-pub struct Judgement {
-    pub kind: Kind,
-    pub rule: usize,
-    pub length: usize,
-    pub positions: [u64; 16],
-    pub rounds: u16,
-    pub set: Derived,
-}
-
-// A judgement of this kind in which everything is zero.
-fn blank(kind: Kind) -> Judgement
-    ensures { result ≡ blank kind }
-{
-    let set = Derived::empty();
-    Judgement {
-        kind,
-        rule: 0,
-        length: 0,
-        positions: [0; 16],
-        rounds: 0,
-        set,
-    }
-}
-
-// The first places are as the source.
-fn copy(source: &[u16], place: &mut [u16])
-    requires { length source.now ≤ length place.old }
-    ensures { Copied source.now place.old place.new }
-{
-    let mut i: usize = 0;
-    while i < source.len() {
-        place[i] = source[i];
-        i += 1;
-    }
+    Smaller {
+        set: Derived,
+    },
 }
 
 // The judgement of a broken instance of this rule.
@@ -70,20 +45,11 @@ fn broken_at(store: &[u64], rule: usize, positions: [u64; 16]) -> Judgement
     requires { (length store.now ≡ store_size) × (rule < rule_room) }
     ensures { result ≡ broken_judgement store.now rule positions }
 {
-    let mut broken = blank(Kind::Unsatisfied);
-    broken.rule = rule;
-    broken.length = positives(store, rule);
-    broken.positions = positions;
-    broken
-}
-
-// The judgement that shows a smaller set.
-fn smaller_set(set: Derived) -> Judgement
-    ensures { result ≡ smaller_judgement set }
-{
-    let mut smaller = blank(Kind::Smaller);
-    smaller.set = set;
-    smaller
+    Judgement::Unsatisfied {
+        rule,
+        length: positives(store, rule),
+        positions,
+    }
 }
 
 // A candidate that is not accepted: the first broken instance or, where none is broken, the atoms that are derived.
@@ -96,7 +62,7 @@ fn rejected(store: &[u64], ranks: &[u32], scan: Scan, set: Derived) -> Judgement
     if rule < scan.total {
         return broken_at(store, rule, positions);
     }
-    smaller_set(set)
+    Judgement::Smaller { set }
 }
 
 // The verdict where no operation leaves the range and no rule has several heads. The rounds are worked out in the table, and lent places are
@@ -111,18 +77,17 @@ fn verdict(
     requires { Scanning store.now scan × (scan.range ≡ false) × (length table.old ≡ scan.count) × (scan.count ≤ length rounds.old) × (disjunctive (rules_for store.now scan.total) ≡ false) }
     ensures { JudgedInRange ranks.now store.now scan.count scan.total rounds.old rounds.new result }
 {
-    let limit = derivation::rounds(store, ranks, scan.count, scan.total, table);
+    let Some(limit) = derivation::rounds(store, ranks, scan.count, scan.total, table) else {
+        return rejected(store, ranks, scan, Derived::empty());
+    };
     let set = limit.set;
-    if limit.broken {
-        return rejected(store, ranks, scan, set);
-    }
     if set.size() < scan.count {
         return rejected(store, ranks, scan, set);
     }
-    copy(table, rounds);
-    let mut accepted = blank(Kind::Accepted);
-    accepted.rounds = limit.rounds;
-    accepted
+    rounds[..scan.count].copy_from_slice(table);
+    Judgement::Accepted {
+        rounds: limit.rounds,
+    }
 }
 
 // The verdict where no operation leaves the range and some rule has several heads: the first broken instance or, where none is broken, the test
@@ -136,12 +101,10 @@ fn tested(store: &[u64], ranks: &[u32], scan: Scan) -> Judgement
     if rule < scan.total {
         return broken_at(store, rule, positions);
     }
-    let smaller = least_smaller(store, ranks, scan.count, scan.total);
-    let set = smaller.set;
-    if smaller.found {
-        return smaller_set(set);
+    match least_smaller(store, ranks, scan.count, scan.total) {
+        Some(set) => Judgement::Smaller { set },
+        None => Judgement::Minimal,
     }
-    blank(Kind::Minimal)
 }
 
 // Refusal 8, or the verdict; each atom's round stands in its place of the lent ones where the candidate is accepted and no rule has several heads.
@@ -166,9 +129,7 @@ pub fn judge(
     };
     let over = first_stop(store, ranks, &mut positions, scan);
     if over < total {
-        let mut out = blank(Kind::OutOfRange);
-        out.rule = over;
-        return out;
+        return Judgement::OutOfRange { rule: over };
     }
     scan.range = false;
     if several {

@@ -12,12 +12,10 @@ pub fn several_heads(store: &[u64], total: usize) -> bool
     requires { (length store.now ≡ store_size) × (total ≤ rule_room) }
     ensures { result ≡ disjunctive (rules_for store.now total) }
 {
-    let mut r: usize = 0;
-    while r < total {
+    for r in 0..total {
         if 1 < rule_column(store, r, HEADS) {
             return true;
         }
-        r += 1;
     }
     false
 }

@@ -4,7 +4,7 @@ use native.Mathlib.Omega.{arith}
 use mathlib.Core.Bool.{Bool, true, false, cond, ◌&&◌}
 use mathlib.Core.Path.{◌≡◌, refl}
 use lib.Dec.{leb, eqb}
-use borrow.Author.Tests.{le-leb, lt-leb, leb-true, eqb-true, ne_eqb}
+use borrow.Author.Tests.{le-leb, lt-leb, leb-true, eqb-true}
 use Rattle.lexis.specs.declared.class.Class.TheVariants.{Lower, Upper, Digit, Underscore, Other}
 use Rattle.lexis.specs.Class.{class_of}
 
@@ -19,21 +19,9 @@ out_of_range low high b h = go (leb low b) refl
     go false e = refl
 
 module _ (b : ℕ) where
-  pub class_lower : 97 ≤ b → b ≤ 122 → class_of b ≡ Lower
-  unfolding class_of
-  class_lower h k = rw (in_range 97 122 b h k)
-
-  pub class_upper : 65 ≤ b → b ≤ 90 → class_of b ≡ Upper
-  unfolding class_of
-  class_upper h k = rw (out_of_range 97 122 b (λ l. omega arith), in_range 65 90 b h k)
-
   pub class_digit : 48 ≤ b → b ≤ 57 → class_of b ≡ Digit
   unfolding class_of
   class_digit h k = rw (out_of_range 97 122 b (λ l. omega arith), out_of_range 65 90 b (λ l. omega arith), in_range 48 57 b h k)
-
-  pub class_other : (97 ≤ b → 122 < b) → (65 ≤ b → 90 < b) → (48 ≤ b → 57 < b) → (b ≡ 95 → ⊥) → class_of b ≡ Other
-  unfolding class_of
-  class_other l u d n = rw (out_of_range 97 122 b l, out_of_range 65 90 b u, out_of_range 48 57 b d, ne_eqb b 95 n)
 
 -- and the one byte that is an underscore
 pub underscore_byte : (b : ℕ) → class_of b ≡ Underscore → b ≡ 95

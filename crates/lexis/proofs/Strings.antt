@@ -87,12 +87,12 @@ module _ (text : List ℕ) (start : ℕ) where
   opened = record { forward = omega arith; ahead = sym (ap (λ (k : ℕ). longer k (closing false (drop start text))) (let z : start - start ≡ 0 = omega arith in z) ∙ longer_zero (closing false (drop start text))) }
 
   module _ (at : ℕ) (e : Bool) (o : Open text start at e) where
-    pub open_none : closing e (drop at text) ≡ 0 → 0 ≡ closing false (drop start text)
+    pub open_none : closing e (drop at text) ≡ 0 → closing false (drop start text) ≡ 0
     unfolding longer
-    open_none h = sym (o.ahead ∙ rw h)
+    open_none h = o.ahead ∙ rw h
 
-    pub open_closed : closing e (drop at text) ≡ 1 → at + 1 - start ≡ closing false (drop start text)
-    open_closed h = sym (o.ahead ∙ ap (longer (at - start)) h ∙ longer_some (at - start) 1 (omega arith) ∙ omega (arith, o.forward))
+    pub open_closed : closing e (drop at text) ≡ 1 → (0 < at + 1 - start) × (at + 1 - start ≡ closing false (drop start text))
+    open_closed h = (omega (arith, o.forward), sym (o.ahead ∙ ap (longer (at - start)) h ∙ longer_some (at - start) 1 (omega arith) ∙ omega (arith, o.forward)))
 
     pub open_on : (d : Bool) → closing e (drop at text) ≡ longer 1 (closing d (drop (at + 1) text)) → Open text start (at + 1) d
     open_on d h =

@@ -3,7 +3,7 @@ ghost use Rattle.std.specs.Prelude.{◌≡◌};
 ghost use Rattle.lexis.specs.Class.{class_of, is_word_class, is_digit};
 
 // What a byte is by its value.
-#[derive(Clone, Copy)]
+#[derive(Clone, Copy, PartialEq, Eq)]
 pub enum Class {
     Lower,
     Upper,
@@ -14,6 +14,7 @@ pub enum Class {
 
 // The class of a byte: ranges for letters and digits, the underscore, and one answer for every other byte. What is below the digits is told
 // first, for most tokens are marks, and the small letters next, for most bytes of names are.
+#[tactic(auto, unfolding(crate::specs::Class::class_of))]
 pub fn class_of(byte: u8) -> Class
     ensures { result ≡ class_of byte }
 {
@@ -48,24 +49,12 @@ pub fn class_of(byte: u8) -> Class
 pub(crate) fn is_word(class: Class) -> bool
     ensures { result ≡ is_word_class class }
 {
-    match class {
-        Class::Lower => true,
-        Class::Upper => true,
-        Class::Digit => true,
-        Class::Underscore => true,
-        Class::Other => false,
-    }
+    class != Class::Other
 }
 
 // Is a byte of the class a digit?
 pub(crate) fn is_digit(class: Class) -> bool
     ensures { result ≡ is_digit class }
 {
-    match class {
-        Class::Lower => false,
-        Class::Upper => false,
-        Class::Digit => true,
-        Class::Underscore => false,
-        Class::Other => false,
-    }
+    class == Class::Digit
 }

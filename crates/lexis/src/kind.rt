@@ -4,7 +4,7 @@ ghost use Rattle.lexis.specs.Kind.{kind_number};
 ghost use Rattle.lexis.specs.Spelling.{single_kind, pair_kind, name_kind};
 
 // What a token is.
-#[derive(Clone, Copy)]
+#[derive(Clone, Copy, PartialEq, Eq)]
 pub enum Kind {
     Name,
     // the keyword `not`
@@ -136,6 +136,7 @@ pub fn kind_number(kind: Kind) -> u8
 }
 
 // The mark of one byte that a byte is, or `Stray`.
+#[tactic(auto, unfolding(crate::specs::Spelling::single_kind))]
 pub fn single_kind(byte: u8) -> Kind
     ensures { result ≡ single_kind byte }
 {
@@ -156,46 +157,27 @@ pub fn single_kind(byte: u8) -> Kind
 }
 
 // The mark of two bytes that two bytes are, or `Stray`.
+#[tactic(auto, unfolding(crate::specs::Spelling::pair_kind))]
 pub fn pair_kind(first: u8, second: u8) -> Kind
     ensures { result ≡ pair_kind first second }
 {
-    match first {
-        b':' => match second {
-            b'-' => Kind::If,
-            _ => Kind::Stray,
-        },
-        b'!' => match second {
-            b'=' => Kind::Unequal,
-            _ => Kind::Stray,
-        },
-        b'<' => match second {
-            b'=' => Kind::AtMost,
-            b'>' => Kind::AlsoUnequal,
-            _ => Kind::Stray,
-        },
-        b'>' => match second {
-            b'=' => Kind::AtLeast,
-            _ => Kind::Stray,
-        },
+    match (first, second) {
+        (b':', b'-') => Kind::If,
+        (b'!', b'=') => Kind::Unequal,
+        (b'<', b'=') => Kind::AtMost,
+        (b'<', b'>') => Kind::AlsoUnequal,
+        (b'>', b'=') => Kind::AtLeast,
         _ => Kind::Stray,
     }
 }
 
 // The kind of a word of `len` bytes that starts with a lower letter, by its first three bytes: `not` is a keyword.
+#[tactic(auto, unfolding(crate::specs::Spelling::name_kind))]
 pub fn name_kind(len: usize, first: u8, second: u8, third: u8) -> Kind
     ensures { result ≡ name_kind len first second third }
 {
-    if len != 3 {
-        return Kind::Name;
+    match (len, first, second, third) {
+        (3, b'n', b'o', b't') => Kind::Not,
+        _ => Kind::Name,
     }
-    if first != b'n' {
-        return Kind::Name;
-    }
-    if second != b'o' {
-        return Kind::Name;
-    }
-    if third != b't' {
-        return Kind::Name;
-    }
-    Kind::Not
 }

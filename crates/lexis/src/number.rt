@@ -11,13 +11,11 @@ pub const OVER_NUMBER: u64 = 1_000_000_001;
 fn digit_value(digit: u8) -> u64
     ensures { result ≡ digit - 48 }
 {
-    if digit < b'0' {
-        return 0;
-    }
-    (digit - b'0') as u64
+    u64::from(digit.saturating_sub(b'0'))
 }
 
 // A number with one digit more, which is over its size where the number was.
+#[tactic(auto, unfolding(crate::specs::Number::capped))]
 fn with_digit(number: u64, digit: u8) -> u64
     ensures { result ≡ capped (number * 10 + (digit - 48)) }
 {
@@ -36,11 +34,8 @@ pub fn value(digits: &[u8]) -> u64
     ensures { result ≡ capped (decimal digits.now) }
 {
     let mut number = 0;
-    let mut i = 0;
-    while i < digits.len() {
-        let digit = digits[i];
-        number = with_digit(number, digit);
-        i += 1;
+    for digit in digits {
+        number = with_digit(number, *digit);
     }
     number
 }

@@ -17,18 +17,19 @@ pub enum Run {
 }
 
 // Is the byte a blank: a space, a tab or, in a program, a newline?
+#[tactic(auto, unfolding(crate::specs::Run::is_blank))]
 pub fn is_blank(byte: u8, program: bool) -> bool
     ensures { result ≡ is_blank program byte }
 {
     match byte {
-        b' ' => true,
-        b'\t' => true,
+        b' ' | b'\t' => true,
         b'\n' => program,
         _ => false,
     }
 }
 
 // Does the byte go on the run?
+#[tactic(auto, unfolding(texts::specs::Prefix::in_line))]
 fn goes_on(run: Run, byte: u8) -> bool
     ensures { result ≡ goes_on run byte }
 {
@@ -44,15 +45,12 @@ fn goes_on(run: Run, byte: u8) -> bool
 pub fn run_end(text: &[u8], at: usize, run: Run) -> usize
     ensures { result ≡ at + prefix_len (goes_on run) (drop at text.now) }
 {
-    let mut end = at;
-    while end < text.len() {
-        let byte = text[end];
-        if !goes_on(run, byte) {
+    for end in at..text.len() {
+        if !goes_on(run, text[end]) {
             return end;
         }
-        end += 1;
     }
-    end
+    at.max(text.len())
 }
 
 // The byte at a place, or 0 past the text's end: no token has a byte 0.

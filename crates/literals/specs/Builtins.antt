@@ -1,13 +1,13 @@
 -- Built-in atoms as rows, from the left term on: what the functions that read them promise.
-use Rattle.std.specs.Prelude.{◌≡◌, false, List, [], ◌∷◌, ℕ, ◌-◌}
-use Rattle.texts.specs.declared.place.Place.{Place}
+use Rattle.std.specs.Prelude.{◌≡◌, false, List, ℕ, ◌-◌, Result}
+use Rattle.texts.specs.declared.refusal.Refused.{Refused}
 use Rattle.texts.specs.Places.{places_in}
 use Rattle.meaning.specs.Rules.{Bytes, Term, Literal}
 use Rattle.meaning.specs.Values.{Value}
 use Rattle.codes.specs.Arithmetic.{comparison_at}
 use Rattle.names.specs.Table.{names_of}
 use Rattle.tables.specs.Coded.{CodedLiteral}
-use Rattle.syntax.specs.Fills.{going, halted, Fills}
+use Rattle.syntax.specs.Fills.{Fills}
 use Rattle.syntax.specs.Builtins.{tail_in, side_in}
 use Rattle.rows.specs.Coding.{CodedTerm, Codes}
 use Rattle.terms.specs.declared.cursor.Cursor.{Cursor}
@@ -23,7 +23,7 @@ pub record ReadyBehind (program output : Bytes) (names variables : List ℕ) (k 
 
 -- the row stands for the literal, beside the table of names afterwards; what has been read began at a place
 abbrev pub LiteralStands : Bytes → Bytes → List ℕ → ℕ → LiteralRead → List ℕ → Literal Value → Type 0
-LiteralStands program output names at r names' l = Codes program output names (r.progress.place.start - at) (λ ns. CodedLiteral ns r.row l) names'
+LiteralStands program output names at r names' l = Codes program output names (r.behind.start - at) (λ ns. CodedLiteral ns r.row l) names'
 
 -- the number stands for a term that was read before
 abbrev pub TermStands : Bytes → Bytes → List ℕ → ℕ → Term Value → Type 0
@@ -36,29 +36,13 @@ pub record ReadySide (program output : Bytes) (names variables : List ℕ) (k : 
   pub stands : TermStands program output names left term
 
 -- behind the right term, whatever terms the numbers stand for
-abbrev pub ReadsTail : Bytes → Bytes → List ℕ → List ℕ → Cursor → Sides → LiteralRead → List ℕ → List ℕ → Type 0
-ReadsTail program output names variables k c r names' variables' = (t u : Term Value) → TermStands program output names c.left t → TermStands program output names c.right u → Fills (tail_in t (comparison_at c.comparison) u) false program k.at.start (met_before variables k) r.progress (places_in variables' r.met) (LiteralStands program output names k.at.start r names')
+abbrev pub ReadsTail : Bytes → Bytes → List ℕ → List ℕ → Cursor → Sides → Result LiteralRead Refused → List ℕ → List ℕ → Type 0
+ReadsTail program output names variables k c r names' variables' = (t u : Term Value) → TermStands program output names c.left t → TermStands program output names c.right u → Fills (tail_in t (comparison_at c.comparison) u) false program k.at.start (met_before variables k) r (λ a. a.behind) (λ a. places_in variables' a.met) (λ a. LiteralStands program output names k.at.start a names')
 
 -- behind the left term
-abbrev pub ReadsSide : Bytes → Bytes → List ℕ → List ℕ → Cursor → ℕ → LiteralRead → List ℕ → List ℕ → Type 0
-ReadsSide program output names variables k left r names' variables' = (t : Term Value) → TermStands program output names left t → Fills (side_in t) false program k.at.start (met_before variables k) r.progress (places_in variables' r.met) (LiteralStands program output names k.at.start r names')
+abbrev pub ReadsSide : Bytes → Bytes → List ℕ → List ℕ → Cursor → ℕ → Result LiteralRead Refused → List ℕ → List ℕ → Type 0
+ReadsSide program output names variables k left r names' variables' = (t : Term Value) → TermStands program output names left t → Fills (side_in t) false program k.at.start (met_before variables k) r (λ a. a.behind) (λ a. places_in variables' a.met) (λ a. LiteralStands program output names k.at.start a names')
 
 -- the cursor behind a left term that has been read
 abbrev pub behind_left : Cursor → TermRead → Cursor
-behind_left k left = onward k left.progress.place false left.met
-
--- the left term's refusal passes on, or its right side is read
-pub data ReadsCompared (program output : Bytes) (names variables : List ℕ) (k : Cursor) (left : TermRead) (r : LiteralRead) (names' variables' : List ℕ) : Type 0 where
-  refused_left : (left.progress.code ≡ 0 → ⊥) → r.progress.code ≡ left.progress.code → r.progress.place ≡ left.progress.place → ReadsCompared program output names variables k left r names' variables'
-  reads_side : left.progress.code ≡ 0 → ReadsSide program output names variables (behind_left k left) left.number r names' variables' → ReadsCompared program output names variables k left r names' variables'
-
--- ---- what the parts of it answer
-
-abbrev pub no_row : List ℕ
-no_row = 0 ∷ 0 ∷ 0 ∷ 0 ∷ 0 ∷ 0 ∷ 0 ∷ 0 ∷ 0 ∷ 0 ∷ 0 ∷ []
-
-abbrev pub stopped_literal : ℕ → Place → ℕ → LiteralRead
-stopped_literal code place met = record { progress = halted code place; row = no_row; met = met }
-
-abbrev pub gone_literal : List ℕ → Place → ℕ → LiteralRead
-gone_literal row next met = record { progress = going next; row = row; met = met }
+behind_left k left = onward k left.behind false left.met

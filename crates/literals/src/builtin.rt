@@ -1,22 +1,21 @@
 // A built-in atom from its left term's number on: a comparison, a term, and perhaps an operation and a term, read as a row.
-ghost use Rattle.std.specs.Prelude.{◌≡◌};
-ghost use Rattle.literals.specs.Builtins.{stopped_literal, gone_literal, ReadyBehind, ReadySide, behind_left, ReadsTail, ReadsSide, ReadsCompared};
+ghost use Rattle.literals.specs.Builtins.{ReadyBehind, ReadySide, ReadsTail, ReadsSide};
 
 use lexis::kind::{MINUS, TIMES};
 use rows::literal::{built_in_row, comparison_code, operation_code};
 use syntax::sign::is_comparison;
-use syntax::token::{Progress, token_at};
-use syntax::word::WRONG;
+use syntax::token::token_at;
 use tables::{LITERAL, NO_OPERATION};
 use terms::cursor::{Cursor, onward};
-use terms::term::{TermRead, term_at};
+use terms::term::term_at;
 use texts::place::{Place, past};
+use texts::refusal::{Refusal, Refused};
 
-// A literal's row, and how many variables have been met behind it.
+// A literal's row, where reading goes on behind it, and how many variables have been met by then.
 #[derive(Clone, Copy)]
 pub struct LiteralRead {
-    pub progress: Progress,
     pub row: [u64; LITERAL],
+    pub behind: Place,
     pub met: usize,
 }
 
@@ -28,29 +27,6 @@ struct Sides {
     right: u64,
 }
 
-pub fn stopped(code: u8, place: Place, met: usize) -> LiteralRead
-    ensures { result ≡ stopped_literal code place met }
-{
-    LiteralRead {
-        progress: Progress { code, place },
-        row: [0; LITERAL],
-        met,
-    }
-}
-
-fn gone(row: [u64; LITERAL], next: Place, met: usize) -> LiteralRead
-    ensures { result ≡ gone_literal row next met }
-{
-    LiteralRead {
-        progress: Progress {
-            code: 0,
-            place: next,
-        },
-        row,
-        met,
-    }
-}
-
 // What stands behind the right term: perhaps an operation and its operand.
 fn operation_at<'a>(
     program: &'a [u8],
@@ -59,7 +35,7 @@ fn operation_at<'a>(
     variables: &mut [u32],
     cursor: Cursor,
     sides: Sides,
-) -> LiteralRead
+) -> Result<LiteralRead, Refused>
     requires { ReadyBehind program.now output.now names.old variables.old cursor }
     ensures { ReadsTail program.now output.now names.old variables.old cursor sides result names.new variables.new }
 {
@@ -67,23 +43,22 @@ fn operation_at<'a>(
     let left = sides.left;
     let comparison = sides.comparison;
     let right = sides.right;
-    if token.kind < MINUS {
-        let row = built_in_row(comparison, NO_OPERATION, left, right, 0);
-        return gone(row, cursor.at, cursor.met);
-    }
-    if TIMES < token.kind {
-        let row = built_in_row(comparison, NO_OPERATION, left, right, 0);
-        return gone(row, cursor.at, cursor.met);
+    if token.kind < MINUS || TIMES < token.kind {
+        return Ok(LiteralRead {
+            row: built_in_row(comparison, NO_OPERATION, left, right, 0),
+            behind: cursor.at,
+            met: cursor.met,
+        });
     }
     let behind = onward(cursor, past(token.place), false, cursor.met);
     let next = token_at(program, behind.at, false);
-    let read = term_at(program, output, program, names, variables, behind, next);
-    if read.progress.code != 0 {
-        return stopped(read.progress.code, read.progress.place, read.met);
-    }
+    let operand = term_at(program, output, program, names, variables, behind, next)?;
     let operation = operation_code(token.kind);
-    let row = built_in_row(comparison, operation, left, right, read.number);
-    gone(row, read.progress.place, read.met)
+    Ok(LiteralRead {
+        row: built_in_row(comparison, operation, left, right, operand.number),
+        behind: operand.behind,
+        met: operand.met,
+    })
 }
 
 // What stands behind the left term, whose number is `left`: a comparison, a term, and perhaps an operation and a term.
@@ -94,44 +69,25 @@ pub fn side_at<'a>(
     variables: &mut [u32],
     cursor: Cursor,
     left: u64,
-) -> LiteralRead
+) -> Result<LiteralRead, Refused>
     requires { ReadySide program.now output.now names.old variables.old cursor left }
     ensures { ReadsSide program.now output.now names.old variables.old cursor left result names.new variables.new }
 {
     let token = token_at(program, cursor.at, false);
     if !is_comparison(token.kind) {
-        return stopped(WRONG, token.place, cursor.met);
+        return Err(Refused {
+            refusal: Refusal::Misplaced,
+            place: token.place,
+        });
     }
     let behind = onward(cursor, past(token.place), false, cursor.met);
     let next = token_at(program, behind.at, false);
-    let read = term_at(program, output, program, names, variables, behind, next);
-    if read.progress.code != 0 {
-        return stopped(read.progress.code, read.progress.place, read.met);
-    }
+    let right = term_at(program, output, program, names, variables, behind, next)?;
     let sides = Sides {
         left,
         comparison: comparison_code(token.kind),
-        right: read.number,
+        right: right.number,
     };
-    let end = onward(cursor, read.progress.place, false, read.met);
+    let end = onward(cursor, right.behind, false, right.met);
     operation_at(program, output, names, variables, end, sides)
-}
-
-// The built-in atom whose left term has been read from the cursor on, or was refused.
-pub fn compared<'a>(
-    program: &'a [u8],
-    output: &'a [u8],
-    names: &mut [u32],
-    variables: &mut [u32],
-    cursor: Cursor,
-    left: TermRead,
-) -> LiteralRead
-    requires { left.progress.code ≡ 0 → ReadySide program.now output.now names.old variables.old (behind_left cursor left) left.number }
-    ensures { ReadsCompared program.now output.now names.old variables.old cursor left result names.new variables.new }
-{
-    if left.progress.code != 0 {
-        return stopped(left.progress.code, left.progress.place, left.met);
-    }
-    let behind = onward(cursor, left.progress.place, false, left.met);
-    side_at(program, output, names, variables, behind, left.number)
 }

@@ -3,12 +3,12 @@ use crate::files::{OUTPUT, PROGRAM, argument, argument_room};
 use crate::tell::{number, quoted, say, size};
 use crate::{misplaced, quote};
 use fields::answer::{Answer, Text};
-use plain::Written;
 use std::io;
 use std::io::Write;
 use std::rt::Env;
-use texts::parts::{part, same_bytes};
+use texts::parts::part;
 use texts::place::Place;
+use texts::refusal::{Refusal, Refused};
 use texts::sizes::{
     MOST_ARGUMENTS, MOST_FACTS, MOST_HEADS, MOST_LITERALS, MOST_NAME, MOST_NUMBER, MOST_RULES,
     MOST_TESTED_FACTS, MOST_TEXT, MOST_VARIABLES,
@@ -20,7 +20,7 @@ fn head(
     err: &mut impl Write,
     file: usize,
     place: Place,
-    refusal: u8,
+    refusal: Refusal,
 ) -> io::Result<()> {
     let mut name = argument_room();
     say(err, argument(rt, file, &mut name).unwrap_or(b""))?;
@@ -29,7 +29,7 @@ fn head(
     say(err, b":")?;
     number(err, place.column as u64)?;
     say(err, b": refusal ")?;
-    number(err, refusal as u64)?;
+    number(err, u64::from(u8::from(refusal)))?;
     say(err, b": ")
 }
 
@@ -47,7 +47,7 @@ fn long_text(err: &mut impl Write, text: &[u8]) -> io::Result<()> {
 
 // The first token of a program that can't stand where it does, or the program's end.
 fn not_of_rules(err: &mut impl Write, token: &[u8]) -> io::Result<()> {
-    if token.len() == 0 {
+    if token.is_empty() {
         return say(
             err,
             b"the program ends where its last rule needs more; a rule ends with a dot",
@@ -56,7 +56,7 @@ fn not_of_rules(err: &mut impl Write, token: &[u8]) -> io::Result<()> {
     quoted(err, token)?;
     say(err, b" can't stand here")?;
     // A program's only `%` that starts no comment.
-    if same_bytes(token, b"%") {
+    if token == b"%".as_slice() {
         say(err, b": no comment starts with %*")?;
     }
     if quote::is_alone(token) {
@@ -179,34 +179,41 @@ fn short(err: &mut impl Write) -> io::Result<()> {
     say(err, b"a lent buffer is too short")
 }
 
-// What is wrong with a part of the program. No other number is given for one.
-fn program_words(err: &mut impl Write, shown: &[u8], refusal: u8) -> io::Result<()> {
+// What is wrong with a part of the program.
+fn program_words(err: &mut impl Write, shown: &[u8], refusal: Refusal) -> io::Result<()> {
     match refusal {
-        1 => long_text(err, b"the program"),
-        2 => not_of_rules(err, shown),
-        3 => large_number(err, shown),
-        4 => program_size(err, shown),
-        5 => unbound(err, shown),
-        8 => out_of_range(err, shown),
-        9 => short(err),
-        _ => Ok(())
+        Refusal::LongText => long_text(err, b"the program"),
+        Refusal::Misplaced => not_of_rules(err, shown),
+        Refusal::LargeNumber => large_number(err, shown),
+        Refusal::OverSize => program_size(err, shown),
+        Refusal::Unbound => unbound(err, shown),
+        Refusal::OutOfRange => out_of_range(err, shown),
+        Refusal::ShortBuffer => short(err),
+        // no part of a program has these
+        Refusal::Repeated | Refusal::Opposed | Refusal::Disagreement | Refusal::Untested => Ok(()),
     }
 }
 
-// What is wrong with a part of the output. No other number is given for one.
-fn output_words(err: &mut impl Write, output: &[u8], place: Place, refusal: u8) -> io::Result<()> {
+// What is wrong with a part of the output.
+fn output_words(
+    err: &mut impl Write,
+    output: &[u8],
+    place: Place,
+    refusal: Refusal,
+) -> io::Result<()> {
     let shown = part(output, place);
     match refusal {
-        1 => long_text(err, b"the output"),
-        2 => misplaced::words(err, output, place),
-        3 => large_number(err, shown),
-        4 => facts_size(err, shown),
-        6 => repeated(err, shown),
-        7 => opposite(err, shown),
-        9 => short(err),
-        10 => disagree(err),
-        12 => many_facts(err),
-        _ => Ok(())
+        Refusal::LongText => long_text(err, b"the output"),
+        Refusal::Misplaced => misplaced::words(err, output, place),
+        Refusal::LargeNumber => large_number(err, shown),
+        Refusal::OverSize => facts_size(err, shown),
+        Refusal::Repeated => repeated(err, shown),
+        Refusal::Opposed => opposite(err, shown),
+        Refusal::ShortBuffer => short(err),
+        Refusal::Disagreement => disagree(err),
+        Refusal::Untested => many_facts(err),
+        // no part of an output has these
+        Refusal::Unbound | Refusal::OutOfRange => Ok(()),
     }
 }
 
@@ -215,7 +222,7 @@ fn of_program(
     err: &mut impl Write,
     program: &[u8],
     place: Place,
-    refusal: u8,
+    refusal: Refusal,
 ) -> io::Result<()> {
     head(rt, err, PROGRAM, place, refusal)?;
     program_words(err, part(program, place), refusal)?;
@@ -227,14 +234,14 @@ fn of_output(
     err: &mut impl Write,
     output: &[u8],
     place: Place,
-    refusal: u8,
+    refusal: Refusal,
 ) -> io::Result<()> {
     head(rt, err, OUTPUT, place, refusal)?;
     output_words(err, output, place, refusal)?;
     say(err, b"\n")
 }
 
-// The line of a refusal of the check. A verdict has the number 0, and no line.
+// The line of a refusal of the check. A verdict has none.
 pub fn of_check(
     rt: &impl Env,
     err: &mut impl Write,
@@ -242,15 +249,14 @@ pub fn of_check(
     output: &[u8],
     answer: Answer,
 ) -> io::Result<()> {
-    if answer.number == 0 {
+    let Answer::Refused { refusal, part } = answer else {
         return Ok(());
-    }
-    let handed = answer.part;
-    let place = handed.place;
-    let text = handed.text;
+    };
+    let place = part.place;
+    let text = part.text;
     match text {
-        Text::Program => of_program(rt, err, program, place, answer.number),
-        Text::Output => of_output(rt, err, output, place, answer.number),
+        Text::Program => of_program(rt, err, program, place, refusal),
+        Text::Output => of_output(rt, err, output, place, refusal),
     }
 }
 
@@ -259,11 +265,10 @@ pub fn of_writer(
     rt: &impl Env,
     err: &mut impl Write,
     program: &[u8],
-    written: Written,
+    written: Result<usize, Refused>,
 ) -> io::Result<()> {
-    if written.code == 0 {
-        return Ok(());
+    match written {
+        Ok(_) => Ok(()),
+        Err(fault) => of_program(rt, err, program, fault.place, fault.refusal),
     }
-    let place = written.place;
-    of_program(rt, err, program, place, written.code)
 }

@@ -4,7 +4,6 @@ ghost use Rattle.std.specs.Prelude.{◌≤◌, IfOk};
 use std::io::{ErrorKind, Read, Write};
 use std::rt::{Env, Files};
 use std::{io, str};
-use texts::parts::same_bytes;
 
 // The argument that says what is asked for.
 pub const WORD: usize = 1;
@@ -21,9 +20,6 @@ const ROOM: usize = 65537;
 
 // Room for an argument. It holds any path.
 const MOST_PATH: usize = 4096;
-
-// An argument that is no number. No code of a solver is as large.
-pub const NO_NUMBER: u64 = u64::MAX;
 
 // What an output is read from.
 #[derive(Drop)]
@@ -101,7 +97,7 @@ pub fn open_output<R: Files + Env>(
 ) -> io::Result<Option<Source<R::File>>> {
     let mut room = argument_room();
     match argument(rt, i, &mut room) {
-        Some(path) if same_bytes(path, b"-") => Ok(Some(Source::Stdin)),
+        Some(b"-") => Ok(Some(Source::Stdin)),
         Some(path) => match open(rt, err, path)? {
             Some(file) => Ok(Some(Source::File(file))),
             None => Ok(None),
@@ -144,20 +140,15 @@ pub fn read_output<R: Files + Input>(
 }
 
 fn is_digits(text: &[u8]) -> bool {
-    for i in 0..text.len() {
-        if text[i] < b'0' || b'9' < text[i] {
-            return false;
-        }
-    }
-    0 < text.len()
+    !text.is_empty() && text.iter().all(|byte| byte.is_ascii_digit())
 }
 
-// The number that argument i spells, or one that is over its size where it is that large; `NO_NUMBER` where it spells none.
-pub fn number_argument(rt: &impl Env, i: usize) -> u64 {
+// The number that argument i spells, or one that is over its size where it is that large; none where it spells none.
+pub fn number_argument(rt: &impl Env, i: usize) -> Option<u64> {
     let mut room = argument_room();
-    let text = argument(rt, i, &mut room).unwrap_or(b"");
+    let text = argument(rt, i, &mut room)?;
     if !is_digits(text) {
-        return NO_NUMBER;
+        return None;
     }
-    lexis::number::value(text)
+    Some(lexis::number::value(text))
 }

@@ -7,7 +7,6 @@ use files::{CODE, OUTPUT, PROGRAM, Source, WORD};
 use std::io;
 use std::io::Write;
 use std::rt::{Env, Files};
-use texts::parts::same_bytes;
 
 mod fault;
 mod files;
@@ -60,10 +59,9 @@ fn check_arguments<R: Env + Files + Input>(
     out: &mut impl Write,
     err: &mut impl Write,
 ) -> io::Result<()> {
-    let code = files::number_argument(rt, CODE);
-    if code == files::NO_NUMBER {
+    let Some(code) = files::number_argument(rt, CODE) else {
         return files::usage(err);
-    }
+    };
     let Some(program) = files::open_argument(rt, err, PROGRAM)? else {
         return Ok(());
     };
@@ -108,13 +106,11 @@ fn run<R: Env + Files + Input>(
 ) -> io::Result<()> {
     let mut room = files::argument_room();
     let word = files::argument(rt, WORD, &mut room).unwrap_or(b"");
-    if same_bytes(word, b"check") {
-        return check_arguments(rt, out, err);
+    match word {
+        b"check" => check_arguments(rt, out, err),
+        b"plain" => plain_arguments(rt, out, err),
+        _ => files::usage(err),
     }
-    if same_bytes(word, b"plain") {
-        return plain_arguments(rt, out, err);
-    }
-    files::usage(err)
 }
 
 fn main(rt: HostRuntime) -> io::Result<()> {

@@ -25,11 +25,10 @@ fn last_line(text: &[u8]) -> &[u8] {
 
 // May the line stand around the report, being empty or starting with `%`?
 fn is_idle(line: &[u8]) -> bool {
-    if line.len() == 0 {
-        return true;
+    match line.first() {
+        Some(first) => *first == b'\n' || *first == b'%',
+        None => true,
     }
-    let first = line[0];
-    first == b'\n' || first == b'%'
 }
 
 // Is the line the report's first, with the facts on the next one?

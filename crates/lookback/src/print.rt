@@ -1,10 +1,9 @@
 // What is printed, line by line.
 use derived_set::{Derived, PLACES};
-use fields::answer::{Answer, Kind};
-use plain::Written;
+use fields::answer::Answer;
 use std::io;
 use std::io::Write;
-use texts::sizes::MOST_LITERALS;
+use texts::refusal::{Refusal, Refused};
 
 fn put(out: &mut impl Write, bytes: &[u8]) -> io::Result<()> {
     out.write_all(bytes)
@@ -22,18 +21,16 @@ fn line(out: &mut impl Write, word: &[u8], n: u64) -> io::Result<()> {
     put(out, b"\n")
 }
 
-fn refused(out: &mut impl Write, n: u8) -> io::Result<()> {
-    line(out, b"REFUSED", n as u64)
+fn refused(out: &mut impl Write, refusal: Refusal) -> io::Result<()> {
+    line(out, b"REFUSED", u64::from(u8::from(refusal)))
 }
 
 // The positions of a broken instance, behind its rule.
-fn body(out: &mut impl Write, answer: Answer) -> io::Result<()> {
+fn body(out: &mut impl Write, positions: &[u64], count: usize) -> io::Result<()> {
     put(out, b"BODY")?;
-    for i in 0usize..MOST_LITERALS {
-        if i < answer.count {
-            put(out, b" ")?;
-            number(out, answer.positions[i])?;
-        }
+    for position in positions.iter().take(count) {
+        put(out, b" ")?;
+        number(out, *position)?;
     }
     put(out, b"\n")
 }
@@ -50,16 +47,21 @@ fn atoms(out: &mut impl Write, set: Derived) -> io::Result<()> {
     put(out, b"\n")
 }
 
-fn accepted(out: &mut impl Write, answer: Answer) -> io::Result<()> {
+fn accepted(out: &mut impl Write, atoms: usize, rounds: usize) -> io::Result<()> {
     put(out, b"VERDICT ACCEPTED\n")?;
-    line(out, b"ATOMS", answer.atoms as u64)?;
-    line(out, b"ROUNDS", answer.rounds as u64)
+    line(out, b"ATOMS", atoms as u64)?;
+    line(out, b"ROUNDS", rounds as u64)
 }
 
-fn unsatisfied(out: &mut impl Write, answer: Answer) -> io::Result<()> {
+fn unsatisfied(
+    out: &mut impl Write,
+    rule: usize,
+    positions: &[u64],
+    count: usize,
+) -> io::Result<()> {
     put(out, b"VERDICT UNSATISFIED\n")?;
-    line(out, b"RULE", answer.rule as u64)?;
-    body(out, answer)
+    line(out, b"RULE", rule as u64)?;
+    body(out, positions, count)
 }
 
 fn smaller(out: &mut impl Write, kept: Derived) -> io::Result<()> {
@@ -68,27 +70,34 @@ fn smaller(out: &mut impl Write, kept: Derived) -> io::Result<()> {
 }
 
 pub fn answer(out: &mut impl Write, answer: Answer) -> io::Result<()> {
-    let kind = answer.kind;
-    let set = answer.kept;
-    match kind {
-        Kind::Refused => refused(out, answer.number),
-        Kind::Accepted => accepted(out, answer),
-        Kind::Unsatisfied => unsatisfied(out, answer),
-        Kind::Smaller => smaller(out, set),
-        Kind::ClaimedNone => put(out, b"VERDICT CLAIMED-NONE\n"),
-        Kind::ClaimedUnknown => put(out, b"VERDICT CLAIMED-UNKNOWN\n"),
+    match answer {
+        Answer::Refused { refusal, .. } => refused(out, refusal),
+        Answer::Accepted { atoms, rounds } => accepted(out, atoms, rounds),
+        Answer::Unsatisfied {
+            rule,
+            count,
+            positions,
+        } => unsatisfied(out, rule, &positions, count),
+        Answer::Smaller { kept } => smaller(out, kept),
+        Answer::ClaimedNone => put(out, b"VERDICT CLAIMED-NONE\n"),
+        Answer::ClaimedUnknown => put(out, b"VERDICT CLAIMED-UNKNOWN\n"),
     }
 }
 
 // The plain form at the buffer's start, or the refusal.
-pub fn plain(out: &mut impl Write, written: Written, buffer: &[u8]) -> io::Result<()> {
-    if written.code != 0 {
-        return refused(out, written.code);
+pub fn plain(
+    out: &mut impl Write,
+    written: Result<usize, Refused>,
+    buffer: &[u8],
+) -> io::Result<()> {
+    match written {
+        Ok(length) => {
+            if let Some(form) = buffer.get(..length) {
+                put(out, form)?;
+                put(out, b"\n")?;
+            }
+            Ok(())
+        }
+        Err(fault) => refused(out, fault.refusal),
     }
-    let length = written.length;
-    if length <= buffer.len() {
-        put(out, &buffer[0..length])?;
-        put(out, b"\n")?;
-    }
-    Ok(())
 }

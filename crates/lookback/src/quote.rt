@@ -2,19 +2,15 @@
 use crate::tell::say;
 use std::io;
 use std::io::Write;
-use texts::parts::same_bytes;
 
 // Is the token a string, or a quote alone?
 pub fn starts(token: &[u8]) -> bool {
-    if token.len() == 0 {
-        return false;
-    }
-    token[0] == b'"'
+    token.starts_with(b"\"")
 }
 
 // Is the token a quote that opens no string?
 pub fn is_alone(token: &[u8]) -> bool {
-    same_bytes(token, b"\"")
+    token == b"\"".as_slice()
 }
 
 pub fn opens_none(err: &mut impl Write) -> io::Result<()> {

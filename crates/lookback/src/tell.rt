@@ -1,7 +1,6 @@
 // Standard error: words, numbers, sizes as the paper writes them, and bytes of a text shown so that any terminal takes them as one line.
 use std::io;
 use std::io::{Cursor, Write};
-use texts::parts::least;
 
 // The most bytes of a part that are shown.
 const MOST_SHOWN: usize = 60;
@@ -32,9 +31,9 @@ fn digit(err: &mut impl Write, byte: u8, left: usize) -> io::Result<()> {
 }
 
 fn in_threes(err: &mut impl Write, digits: &[u8; MOST_DIGITS], count: usize) -> io::Result<()> {
-    for at in 0usize..MOST_DIGITS {
+    for (at, byte) in digits.iter().enumerate() {
         if at < count {
-            digit(err, digits[at], count - at)?;
+            digit(err, *byte, count - at)?;
         }
     }
     Ok(())
@@ -65,9 +64,8 @@ fn shown(err: &mut impl Write, byte: u8) -> io::Result<()> {
 }
 
 fn first_shown(err: &mut impl Write, bytes: &[u8]) -> io::Result<()> {
-    let count = least(bytes.len(), MOST_SHOWN);
-    for at in 0..count {
-        shown(err, bytes[at])?;
+    for byte in bytes.iter().take(MOST_SHOWN) {
+        shown(err, *byte)?;
     }
     Ok(())
 }

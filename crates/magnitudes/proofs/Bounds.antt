@@ -1,42 +1,26 @@
 -- Bounds of terms, right sides and literals, from bounds of the variables.
-use mathlib.Core.Path.{◌≡◌, refl, ap, ◌∙◌}
+use mathlib.Core.Path.{◌≡◌, refl, ap}
 use mathlib.Core.Bool.{Bool, true, false}
 use mathlib.Core.Option.{Option, none, some}
 use mathlib.Core.List.{List}
-use Prim.Native.Nat.{ℕ, ◌+◌, ◌-◌, ◌*◌, ◌≤◌, ◌<◌}
+use Prim.Native.Nat.{ℕ, zero, suc, ◌+◌, ◌*◌, ◌≤◌, ◌<◌}
 use native.Mathlib.Decide.{ℕ_discrete}
 use native.Mathlib.Omega.{arith}
 use borrow.Author.Tests.{lt-ltb, le-ltb, eq-eqb, ne_eqb}
 use lib.ListN.{get_or}
 use Rattle.meaning.specs.Sets.{any}
 use Rattle.meaning.specs.Domain.{Operation}
-use Rattle.meaning.specs.Rules.{Bytes}
+use Rattle.meaning.specs.Rules.{Bytes, Literal}
 use Rattle.meaning.specs.Matchings.{Values, value?, operate?, side?}
 use Rattle.meaning.specs.Quick.{unfit, side_overflows, literal_overflows}
 use Rattle.meaning.proofs.Booleans.{none_some, some_inj}
-use Rattle.codes.specs.Codes.{no_value, zero_code, is_number_code}
+use Rattle.codes.specs.Codes.{no_value}
 use Rattle.codes.specs.Arithmetic.{operation_at}
 use Rattle.codes.specs.Domains.{codes, code_in_range}
 use Rattle.tables.specs.Layout.{sort_column, operation_column, first_column, second_column}
 use Rattle.tables.specs.Rows.{from, term_of, literal_column, no_operation, side_at, literal_at}
-use Rattle.overflow.proofs.Operations.{some_later, some_end}
 use Rattle.magnitudes.specs.Sizes.{size, greatest, Within, Modest, TermWithin, SideWithin}
 use Rattle.magnitudes.proofs.Far.{reached, size_small, applied_small}
-
--- ---- a code
-
-module _ (code : ℕ) (t : Bool) (test : t ≡ is_number_code code) where
-  pub size_other : t ≡ false → 0 ≡ size code
-  unfolding size
-  size_other e = rw (← test, e)
-
-  pub size_below : t ≡ true → code < zero_code → zero_code - code ≡ size code
-  unfolding size
-  size_below e h = rw (← test, e) (omega arith)
-
-  pub size_above : t ≡ true → zero_code ≤ code → code - zero_code ≡ size code
-  unfolding size
-  size_above e h = rw (← test, e) (omega arith)
 
 -- ---- a term
 
@@ -102,13 +86,8 @@ module _ (literals : List ℕ) (l : ℕ) (bounds : List ℕ) where
   unfolding literal_at literal_overflows
   literal_within h n s names ρ w = rw (ne_eqb (literal_column literals l sort_column) 0 (λ e. omega arith), ne_eqb (literal_column literals l sort_column) 1 (λ e. omega arith)) (s.stays names ρ w)
 
-module _ (literals : List ℕ) (end l : ℕ) (bounds : List ℕ) where
-  -- the literals from place k on stay in range
-  abbrev pub StayFrom : ℕ → Type 0
-  StayFrom k = (names : List Bytes) (ρ : Values ℕ) → Within bounds ρ → any (literal_overflows (codes names) code_in_range ρ) (from (literal_at literals) (end - k) k) ≡ false
-
-  pub stay_on : l < end → ((names : List Bytes) (ρ : Values ℕ) → Within bounds ρ → literal_overflows (codes names) code_in_range ρ (literal_at literals l) ≡ false) → StayFrom (l + 1) → StayFrom l
-  stay_on h s t = λ names ρ w. some_later (literal_overflows (codes names) code_in_range ρ) literals end l h (s names ρ w) ∙ t names ρ w
-
-  pub stay_end : end ≤ l → StayFrom l
-  stay_end h = λ names ρ w. some_end (literal_overflows (codes names) code_in_range ρ) literals end l h
+-- no literal among so many passes a test
+pub none_passes : (f : Literal ℕ → Bool) (literals : List ℕ) (n k : ℕ) → ((l : ℕ) → k ≤ l → l < k + n → f (literal_at literals l) ≡ false) → any f (from (literal_at literals) n k) ≡ false
+unfolding any from
+none_passes f literals zero k h = refl
+none_passes f literals (suc n) k h = rw (h k (omega arith) (omega arith)) (none_passes f literals n (suc k) (λ l a b. h l (omega arith) (omega arith)))

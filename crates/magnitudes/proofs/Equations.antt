@@ -19,13 +19,12 @@ use Rattle.magnitudes.specs.Sizes.{greatest, Within, Modest, SideWithin}
 module _ (literals places bounds₀ : List ℕ) where
   -- behind i equations: values within the bounds, which the others complete to what all complete
   pub record Bounding (i : ℕ) (bounds : List ℕ) : Type 0 where
-    pub place : i ≤ length places
     pub long : length bounds ≡ length bounds₀
     pub modest : Modest bounds
     pub so : (names : List Bytes) (ρ : Values ℕ) → Within bounds₀ ρ → (π : Values ℕ) × Within bounds π × (complete (codes names) (map (equation_at literals) places) ρ ≡ complete (codes names) (map (equation_at literals) (drop i places)) π)
 
   pub bounding_none : Modest bounds₀ → Bounding 0 bounds₀
-  bounding_none m = record { place = omega arith; long = refl; modest = m; so = λ names ρ w. (ρ, w, refl) }
+  bounding_none m = record { long = refl; modest = m; so = λ names ρ w. (ρ, w, refl) }
 
   pub bounding_all : (i : ℕ) (bounds : List ℕ) → length places ≤ i → Bounding i bounds → (names : List Bytes) (ρ : Values ℕ) → Within bounds₀ ρ → Within bounds (complete (codes names) (map (equation_at literals) places) ρ)
   unfolding complete
@@ -57,7 +56,7 @@ module _ (literals places bounds₀ : List ℕ) where
 
       pub bounding_one : Bounding (i + 1) (set bounds left_of n)
       unfolding complete equation_at
-      bounding_one = record { place = omega arith; long = long' ∙ b.long; modest = still_modest; so = so' }
+      bounding_one = record { long = long' ∙ b.long; modest = still_modest; so = so' }
         where
           long' : length (set bounds left_of n) ≡ length bounds
           long' = simp length-set

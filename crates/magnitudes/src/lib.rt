@@ -25,26 +25,14 @@ const ZERO: u64 = 1_000_000_017;
 const GREATEST: u64 = 1_000_000_000;
 
 // How far a code's number lies from 0; 0 where it is no number's.
+#[tactic(auto, unfolding(crate::specs::Sizes::size))]
 fn size(code: u64) -> u64
     ensures { result ≡ size code }
 {
     if !codes::is_number(code) {
         return 0;
     }
-    if code < ZERO {
-        return ZERO - code;
-    }
-    code - ZERO
-}
-
-// The larger of two sizes.
-fn max(one: u64, other: u64) -> u64
-    ensures { (one ≤ result) × (other ≤ result) × ((n : ℕ) → one ≤ n → other ≤ n → result ≤ n) }
-{
-    if one < other {
-        return other;
-    }
-    one
+    code.abs_diff(ZERO)
 }
 
 // The largest of some codes' sizes and a size.
@@ -52,13 +40,9 @@ fn larger(codes: &[u64], most: u64) -> u64
     requires { most ≤ greatest }
     ensures { (result ≤ greatest) × (most ≤ result) × ((c : ℕ) → In c codes.now → size c ≤ result) }
 {
-    let mut largest = most;
-    let mut i: usize = 0;
-    while i < codes.len() {
-        largest = max(largest, size(codes[i]));
-        i += 1;
-    }
-    largest
+    codes
+        .iter()
+        .fold(most, |largest, code| largest.max(size(*code)))
 }
 
 // The size of the largest number of the facts.
@@ -67,12 +51,10 @@ pub fn largest(facts: &[u64], count: usize) -> u64
     ensures { (result ≤ greatest) × Largest facts.now count result }
 {
     let mut most: u64 = 0;
-    let mut k: usize = 0;
-    while k < count {
+    for k in 0..count {
         let arity = (facts[k * FACT] % ARITIES) as usize;
         let from = k * FACT + ARGUMENTS;
         most = larger(&facts[from..from + arity], most);
-        k += 1;
     }
     most
 }
@@ -111,16 +93,14 @@ fn equations_stay(literals: &[u64], places: &[u64], bounds: &mut [u64]) -> bool
     requires { ((l : ℕ) → In l places.now → EquationRow literals.now l) × (16 ≤ length bounds.old) × Modest bounds.old }
     ensures { (length bounds.new ≡ length bounds.old) × Modest bounds.new × (result ≡ true → (names : List Bytes) (ρ : Values ℕ) → Within bounds.old ρ → Within bounds.new (complete (codes names) (map (equation_at literals.now) places.now) ρ)) }
 {
-    let mut i: usize = 0;
-    while i < places.len() {
-        let l = places[i] as usize;
+    for place in places {
+        let l = *place as usize;
         let bound = side_bound(literals, l, bounds);
         if GREATEST < bound {
             return false;
         }
         let x = literals[l * LITERAL + TERMS] as usize;
         bounds[x] = bound;
-        i += 1;
     }
     true
 }
@@ -144,14 +124,7 @@ fn literals_stay(literals: &[u64], first: usize, end: usize, bounds: &[u64]) -> 
     requires { ((l : ℕ) → first ≤ l → l < end → BodyRow literals.now l) × (16 ≤ length bounds.now) × Modest bounds.now }
     ensures { result ≡ true → (names : List Bytes) (ρ : Values ℕ) → Within bounds.now ρ → any (literal_overflows (codes names) code_in_range ρ) (from (literal_at literals.now) (end - first) first) ≡ false }
 {
-    let mut l = first;
-    while l < end {
-        if !literal_stays(literals, l, bounds) {
-            return false;
-        }
-        l += 1;
-    }
-    true
+    (first..end).all(|l| literal_stays(literals, l, bounds))
 }
 
 // No operation of rule r can leave the range, where no number of the facts is larger than `most`.

@@ -8,34 +8,26 @@ use lib.ListN.{length}
 use Rattle.texts.specs.declared.place.Span.{Span}
 use Rattle.texts.specs.Places.{span_from}
 use Rattle.meaning.specs.Rules.{Bytes}
-use Rattle.names.specs.declared.Found.{Found}
-use Rattle.names.specs.declared.Found.TheVariants.{At, Nothing}
+use Rattle.std.specs.Prelude.{Option, None, Some}
 use Rattle.names.specs.Texts.{bytes_at}
 use Rattle.names.specs.Table.{capacity, count, name_at, names_of, slot_of, with_row, Table, Addable}
-use Rattle.names.specs.Numbering.{Absent, Finds, held, added, Interns}
+use Rattle.names.specs.Numbering.{Absent, Finds, added, Interns}
 use Rattle.names.proofs.Firsts.{length_first}
 use Rattle.names.proofs.Slots.{slot_inside}
 use Rattle.names.proofs.Standing.{starts_inside, no_longer}
 use Rattle.names.proofs.Rows.{length_after}
 use Rattle.names.proofs.Growth.{names_more, table_more}
 
-not_there : (names : List Bytes) (name : Bytes) (f : Found) → f ≡ Nothing → Finds names name f → Absent names name
-not_there names name (At i) e h = absurd (let z : ◌≡◌ {A = ℕ} 0 1 = cc in let y : ⊥ = omega arith in y)
-not_there names name Nothing e h = h
+not_there : (names : List Bytes) (name : Bytes) (f : Option ℕ) → f ≡ None → Finds names name f → Absent names name
+not_there names name (Some i) e h = absurd (let z : ◌≡◌ {A = ℕ} 0 1 = cc in let y : ⊥ = omega arith in y)
+not_there names name None e h = h
 
-module _ (program output : Bytes) (table : List ℕ) (t : Table program output table) (start : ℕ) (name : Bytes) (b : name ≡ bytes_at program output (span_from start (length name))) (f : Found) (finds : Finds (names_of program output table) name f) where
+module _ (program output : Bytes) (table : List ℕ) (t : Table program output table) (start : ℕ) (name : Bytes) (b : name ≡ bytes_at program output (span_from start (length name))) (f : Option ℕ) (finds : Finds (names_of program output table) name f) where
   abbrev span : Span
   span = span_from start (length name)
 
-  pub interned_held : (i : ℕ) → f ≡ At i → Interns program output table name table f
-  interned_held i e = go f e finds
-    where
-      go : (g : Found) → g ≡ At i → Finds (names_of program output table) name g → Interns program output table name table g
-      go (At j) e h = (t, held h, refl)
-      go Nothing e h = absurd (let z : ◌≡◌ {A = ℕ} 0 1 = cc in let y : ⊥ = omega arith in y)
-
-  module _ (n : ℕ) (c : n ≡ count table) (none : f ≡ Nothing) where
-    pub interned_full : n ≡ capacity (length table) → Interns program output table name table Nothing
+  module _ (n : ℕ) (c : n ≡ count table) (none : f ≡ None) where
+    pub interned_full : n ≡ capacity (length table) → Interns program output table name table None
     interned_full m = (refl, inr (not_there _ _ f none finds, length_first (name_at program output table) (count table) ∙ sym c ∙ m))
 
     module _ (slot : ℕ) (s : slot ≡ slot_of name) (nonempty : length name ≡ 0 → ⊥) (room : n ≡ capacity (length table) → ⊥) where
@@ -54,7 +46,7 @@ module _ (program output : Bytes) (table : List ℕ) (t : Table program output t
             link_fits = let w = (t.heads slot below).within in let r = t.room in omega arith;
           }
 
-      pub interned_new : Interns program output table name (with_row table slot span) (At n)
+      pub interned_new : Interns program output table name (with_row table slot span) (Some n)
       interned_new = (table_more program output table slot span addable t (s ∙ ap slot_of b) (subst (Absent (names_of program output table)) b absent) filled, rw (more, number) (added absent), length_after table slot span)
         where
           absent : Absent (names_of program output table) name

@@ -9,4 +9,3 @@ pub mod Chains
 pub mod Standing
 pub mod Firsts
 pub mod Slots
-pub mod Before

@@ -11,19 +11,18 @@ use Rattle.meaning.specs.Values.{name, string}
 use Rattle.codes.specs.Codes.{first_name, first_string, quote, Distinct, Coded, as_name, as_string}
 use Rattle.codes.specs.Predicates.{CodedName}
 use Rattle.codes.proofs.Names.{last_at}
-use Rattle.names.specs.declared.Found.{Found}
-use Rattle.names.specs.declared.Found.TheVariants.{At, Nothing}
+use Rattle.std.specs.Prelude.{Option, None, Some}
 use Rattle.names.specs.Table.{most_names, capacity, count, name_at, names_of}
 use Rattle.names.specs.Numbering.{Absent, Finds, Grown, held, added, Interns}
 use Rattle.names.proofs.Firsts.{length_first, first_inside}
 
 -- ---- a name is found at one place only
 
-pub finds_once : (names : List Bytes) (n : Bytes) → Distinct names → (f g : Found) → Finds names n f → Finds names n g → f ≡ g
-finds_once names n d (At i) (At j) p q = ap At (d.once i j n p q)
-finds_once names n d (At i) Nothing p q = absurd (q i p)
-finds_once names n d Nothing (At j) p q = absurd (p j q)
-finds_once names n d Nothing Nothing p q = refl
+pub finds_once : (names : List Bytes) (n : Bytes) → Distinct names → (f g : Option ℕ) → Finds names n f → Finds names n g → f ≡ g
+finds_once names n d (Some i) (Some j) p q = ap Some (d.once i j n p q)
+finds_once names n d (Some i) None p q = absurd (q i p)
+finds_once names n d None (Some j) p q = absurd (p j q)
+finds_once names n d None None p q = refl
 
 -- ---- the list with a name
 
@@ -58,7 +57,7 @@ module _ (names : List Bytes) (n : Bytes) where
 -- ---- interning
 
 module _ (program output : Bytes) (table : List ℕ) (n : Bytes) where
-  module _ (after : List ℕ) (i : ℕ) (interned : Interns program output table n after (At i)) where
+  module _ (after : List ℕ) (i : ℕ) (interned : Interns program output table n after (Some i)) where
     stands_at : get_elem? (names_of program output after) i ≡ some n
     stands_at = grown_at (names_of program output table) n (names_of program output after) i interned.1
 
@@ -73,15 +72,15 @@ module _ (program output : Bytes) (table : List ℕ) (n : Bytes) where
     interned_string s e = as_string i refl (stands_at ∙ ap some e)
 
   -- a name that has bytes has a number afterwards, where the table has room
-  pub numbered : (after : List ℕ) (f : Found) → Interns program output table n after f → (n ≡ [] → ⊥) → length (names_of program output table) < capacity (length table) → (i : ℕ) × (f ≡ At i)
-  numbered after (At i) h nonempty room = (i, refl)
-  numbered after Nothing h nonempty room = absurd (turned_away h.1)
+  pub numbered : (after : List ℕ) (f : Option ℕ) → Interns program output table n after f → (n ≡ [] → ⊥) → length (names_of program output table) < capacity (length table) → (i : ℕ) × (f ≡ Some i)
+  numbered after (Some i) h nonempty room = (i, refl)
+  numbered after None h nonempty room = absurd (turned_away h.1)
     where
       turned_away : (n ≡ []) ⊎ (Absent (names_of program output table) n × (length (names_of program output table) ≡ capacity (length table))) → ⊥
       turned_away (inl e) = nonempty e
       turned_away (inr e) = let l = e.1 in omega arith
 
-  not_both : (after : List ℕ) (i : ℕ) → Interns program output table n after (At i) → (n ≡ []) ⊎ (Absent (names_of program output table) n × (length (names_of program output table) ≡ capacity (length table))) → ⊥
+  not_both : (after : List ℕ) (i : ℕ) → Interns program output table n after (Some i) → (n ≡ []) ⊎ (Absent (names_of program output table) n × (length (names_of program output table) ≡ capacity (length table))) → ⊥
   not_both after i p (inl e) = p.0.distinct.nonempty i (grown_at _ n _ i p.1 ∙ ap some e)
   not_both after i p (inr e) = past (names_of program output after) i p.1 (let l = length_first (name_at program output after) (count after) in let r = p.0.room in let s = ap capacity p.2 in omega arith)
     where
@@ -90,8 +89,8 @@ module _ (program output : Bytes) (table : List ℕ) (n : Bytes) where
       past _ _ (added h) l = let k = length-append (names_of program output table) (n ∷ []) in let m = e.1 in omega arith
 
   -- the answer and the list afterwards are the only ones
-  pub interns_once : Distinct (names_of program output table) → (a b : List ℕ) (f g : Found) → Interns program output table n a f → Interns program output table n b g → (f ≡ g) × (names_of program output a ≡ names_of program output b)
-  interns_once d a b (At i) (At j) p q = let e = grown_once (names_of program output table) n d _ _ i j p.1 q.1 in (ap At e.1, e.0)
-  interns_once d a b (At i) Nothing p q = absurd (not_both a i p q.1)
-  interns_once d a b Nothing (At j) p q = absurd (not_both b j q p.1)
-  interns_once d a b Nothing Nothing p q = (refl, ap (names_of program output) (p.0 ∙ sym q.0))
+  pub interns_once : Distinct (names_of program output table) → (a b : List ℕ) (f g : Option ℕ) → Interns program output table n a f → Interns program output table n b g → (f ≡ g) × (names_of program output a ≡ names_of program output b)
+  interns_once d a b (Some i) (Some j) p q = let e = grown_once (names_of program output table) n d _ _ i j p.1 q.1 in (ap Some e.1, e.0)
+  interns_once d a b (Some i) None p q = absurd (not_both a i p q.1)
+  interns_once d a b None (Some j) p q = absurd (not_both b j q p.1)
+  interns_once d a b None None p q = (refl, ap (names_of program output) (p.0 ∙ sym q.0))

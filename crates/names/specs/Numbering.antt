@@ -1,12 +1,10 @@
 -- Names to numbers: the number of a name is its place in the list of distinct names.
-use Rattle.std.specs.Prelude.{◌≡◌, ◌⊎◌, List, [], ◌∷◌, ◌++◌, ℕ, ◌≤◌, length}
+use Rattle.std.specs.Prelude.{◌≡◌, ◌⊎◌, List, [], ◌∷◌, ◌++◌, ℕ, ◌≤◌, length, Option, None, Some}
 use Rattle.std.proofs.Math.Option.{some}
 use Rattle.std.proofs.Math.ListN.{get_elem?}
 use Rattle.texts.specs.Sizes.{most_text}
 use Rattle.meaning.specs.Rules.{Bytes}
 use Rattle.names.specs.Table.{capacity, names_of, Table}
-use Rattle.names.specs.declared.Found.{Found}
-use Rattle.names.specs.declared.Found.TheVariants.{At, Nothing}
 
 abbrev pub Absent : List Bytes → Bytes → Type 0
 Absent names name = (i : ℕ) → get_elem? names i ≡ some name → ⊥
@@ -18,9 +16,9 @@ pub record Empty (n : ℕ) (table : List ℕ) : Type 0 where
   pub room : n ≤ capacity (length table)
 
 -- the answer to where a name stands
-abbrev pub Finds : List Bytes → Bytes → Found → Type 0
-Finds names name (At i) = get_elem? names i ≡ some name
-Finds names name Nothing = Absent names name
+abbrev pub Finds : List Bytes → Bytes → Option ℕ → Type 0
+Finds names name (Some i) = get_elem? names i ≡ some name
+Finds names name None = Absent names name
 
 -- a name's number in the list that holds it: the list itself, or the list with the name behind it where it was not there
 pub data Grown (names : List Bytes) (name : Bytes) : List Bytes → ℕ → Type 0 where
@@ -28,7 +26,7 @@ pub data Grown (names : List Bytes) (name : Bytes) : List Bytes → ℕ → Type
   added : Absent names name → Grown names name (names ++ (name ∷ [])) (length names)
 
 -- the table afterwards and the answer: the name has a number, or it is empty or new to a full table, and nothing changes
-abbrev pub Interns : Bytes → Bytes → List ℕ → Bytes → List ℕ → Found → Type 0
-Interns program output table name table' (At i) = Table program output table' × Grown (names_of program output table) name (names_of program output table') i × (length table' ≡ length table)
-Interns program output table name table' Nothing =
+abbrev pub Interns : Bytes → Bytes → List ℕ → Bytes → List ℕ → Option ℕ → Type 0
+Interns program output table name table' (Some i) = Table program output table' × Grown (names_of program output table) name (names_of program output table') i × (length table' ≡ length table)
+Interns program output table name table' None =
     (table' ≡ table) × ((name ≡ []) ⊎ (Absent (names_of program output table) name × (length (names_of program output table) ≡ capacity (length table))))

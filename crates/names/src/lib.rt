@@ -28,13 +28,6 @@ pub const SMALL_TEXT: usize = 4096;
 
 pub const SMALL_TABLE: usize = table::FIRST_ROW + 2 * SMALL_TEXT * table::ROW;
 
-// Where a name is found.
-#[derive(Clone, Copy)]
-pub enum Found {
-    At(usize),
-    Nothing,
-}
-
 // A table with no names, for any two texts within their size.
 pub fn empty() -> [u32; TABLE]
     ensures { Empty most_names result }
@@ -50,7 +43,13 @@ pub fn empty_small() -> [u32; SMALL_TABLE]
 }
 
 // The number of a name: the names of its slot are looked at, the last first.
-fn seek<'a>(program: &'a [u8], output: &'a [u8], table: &[u32], name: &[u8], slot: usize) -> Found
+fn seek<'a>(
+    program: &'a [u8],
+    output: &'a [u8],
+    table: &[u32],
+    name: &[u8],
+    slot: usize,
+) -> Option<usize>
     requires { Table program.now output.now table.now × (slot ≡ slot_of name.now) }
     ensures { Finds (names_of program.now output.now table.now) name.now result }
 {
@@ -58,11 +57,11 @@ fn seek<'a>(program: &'a [u8], output: &'a [u8], table: &[u32], name: &[u8], slo
     while 0 < link {
         let number = link - 1;
         if same_bytes(bytes_at(program, output, table::span(table, number)), name) {
-            return Found::At(number);
+            return Some(number);
         }
         link = table::link(table, number);
     }
-    Found::Nothing
+    None
 }
 
 // The number of a name, whose bytes start at `start`; it is put behind the others where it is new. An empty one has none, and a full table
@@ -73,24 +72,23 @@ pub fn intern<'a>(
     table: &mut [u32],
     name: &'a [u8],
     start: usize,
-) -> Found
+) -> Option<usize>
     requires { Table program.now output.now table.old × (name.now ≡ bytes_at program.now output.now (span_from start (length name.now))) }
     ensures { Interns program.now output.now table.old name.now table.new result }
 {
     if name.len() == 0 {
-        return Found::Nothing;
+        return None;
     }
     let slot = table::slot_of(name);
-    let found = seek(program, output, &*table, name, slot);
-    if let Found::At(_) = found {
-        return found;
+    if let Some(number) = seek(program, output, &*table, name, slot) {
+        return Some(number);
     }
     let number = table::count(&*table);
     if number == table::capacity(&*table) {
-        return Found::Nothing;
+        return None;
     }
     table::add(table, slot, span_from(start, name.len()));
-    Found::At(number)
+    Some(number)
 }
 
 // The bytes of the name with a number; none for a number that no name has.

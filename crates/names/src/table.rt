@@ -3,7 +3,6 @@ ghost use Rattle.std.specs.Prelude.{◌≡◌, ◌≤◌, ◌<◌, length};
 ghost use Rattle.names.specs.Table.{slots, first_row, capacity, slot_of, count, head, link, span_of, with_row, Addable};
 
 use crate::MOST_NAMES;
-use texts::parts::least;
 use texts::place::{Span, span_from};
 use texts::places::{number_at, put_number};
 
@@ -25,21 +24,13 @@ const LINK: usize = 2;
 // Any odd number spreads the bytes over the slots; with this one few names share a slot.
 const FACTOR: usize = 241;
 
-fn wide(byte: u8) -> usize
-    ensures { (result ≡ byte) × (result < 256) }
-{
-    byte as usize
-}
-
 // The slot of a name, a hash of its bytes.
 pub fn slot_of(name: &[u8]) -> usize
     ensures { result ≡ slot_of name.now }
 {
     let mut slot: usize = 0;
-    let mut i: usize = 0;
-    while i < name.len() {
-        slot = (slot * FACTOR + wide(name[i])) % SLOTS;
-        i += 1;
+    for byte in name {
+        slot = (slot * FACTOR + usize::from(*byte)) % SLOTS;
     }
     slot
 }
@@ -49,7 +40,7 @@ pub fn capacity(table: &[u32]) -> usize
     requires { first_row ≤ length table.now }
     ensures { result ≡ capacity (length table.now) }
 {
-    least((table.len() - FIRST_ROW) / ROW, MOST_NAMES)
+    ((table.len() - FIRST_ROW) / ROW).min(MOST_NAMES)
 }
 
 // How many names there are.

@@ -11,21 +11,12 @@ use Rattle.matchings.specs.Tables.{InBody}
 use Rattle.orders.specs.Orders.{Plain, PlainRule}
 
 module _ (store : List ℕ) where
-  pub plain_none : (first : ℕ) → Plain store first first
-  plain_none first = record { each = λ l h k. absurd (omega arith) }
-
   pub plain_more : (first l k : ℕ) → k ≡ literal_column (literals_in store) l comparison_column → k < 2 → Plain store first l → Plain store first (l + 1)
   plain_more first l k is low p = record { each = λ m a b. at m a b (dec_lt m l) }
     where
       at : (m : ℕ) → first ≤ m → m < l + 1 → Dec (m < l) → literal_column (literals_in store) m comparison_column ≤ 1
       at m a b (yes h) = p.each m a h
       at m a b (no h) = let same : m ≡ l = omega arith in rw same (omega (arith, is))
-
-  pub plain_all : (first l end : ℕ) → end ≤ l → Plain store first l → Plain store first end
-  plain_all first l end h p = record { each = λ m a b. p.each m a (omega arith) }
-
-  pub rules_none : PlainRule store 0
-  rules_none = record { each = λ r l h. absurd (omega arith) }
 
   pub rules_more : (r first size : ℕ) → first ≡ rule_column (rules_in store) r first_literal_column → size ≡ rule_column (rules_in store) r literals_column → PlainRule store r → Plain store first (first + size) → PlainRule store (r + 1)
   rules_more r first size e f before here = record { each = λ q l a b. at q l a b (dec_lt q r) }
@@ -36,6 +27,3 @@ module _ (store : List ℕ) where
           let same : q ≡ r = omega arith in
           let body : InBody store r l = rw same at b in
           here.each l (omega (arith, body.from_first, e)) (omega (arith, body.to_last, e, f))
-
-  pub rules_all : (r total : ℕ) → total ≤ r → PlainRule store r → PlainRule store total
-  rules_all r total h p = record { each = λ q l a b. p.each q l (omega arith) b }

@@ -14,12 +14,10 @@ fn body_orders(store: &[u64], first: usize, end: usize) -> bool
     requires { (length store.now ≡ store_size) × (end ≤ literal_room) }
     ensures { result ≡ false → Plain store.now first end }
 {
-    let mut l = first;
-    while l < end {
+    for l in first..end {
         if LESS <= literal_column(store, l, COMPARISON) {
             return true;
         }
-        l += 1;
     }
     false
 }
@@ -29,14 +27,12 @@ pub fn any_orders(store: &[u64], total: usize) -> bool
     requires { RulesInside store.now total }
     ensures { result ≡ false → PlainRule store.now total }
 {
-    let mut r: usize = 0;
-    while r < total {
+    for r in 0..total {
         let first = rule_column(store, r, FIRST_LITERAL) as usize;
         let length = rule_column(store, r, LITERALS) as usize;
         if body_orders(store, first, first + length) {
             return true;
         }
-        r += 1;
     }
     false
 }

@@ -1,4 +1,4 @@
--- Laws that the proofs of callers cite: first that the answer is one, then what a caller makes of it.
+-- Laws that the proofs of callers cite: first that a number decides its refusal and that the answer is one, then what a caller makes of it.
 pub mod Unique
 pub mod Stages
 pub mod Uses

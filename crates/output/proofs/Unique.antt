@@ -1,10 +1,14 @@
 -- Each output has at most one outcome, and so one answer.
-use mathlib.Core.Path.{◌≡◌, refl, sym as inv, ap, ◌∙◌}
+use mathlib.Core.Path.{◌≡◌, refl, sym as inv, ap, ap₂, subst, ◌∙◌}
 use mathlib.Core.Bool.{true}
 use Prim.Native.Nat.{ℕ, ◌<◌}
 use native.Mathlib.Omega.{arith}
 use lib.ListN.{length}
+use Rattle.std.specs.Prelude.{Result, Ok, Err}
 use Rattle.texts.specs.declared.place.Place.{Place}
+use Rattle.texts.specs.declared.refusal.Refused.{Refused}
+use Rattle.texts.specs.declared.refusal.Refusal.{Refusal}
+use Rattle.texts.specs.declared.refusal.Refusal.TheVariants.{Misplaced}
 use Rattle.texts.specs.Parts.{part}
 use Rattle.texts.specs.Sizes.{most_text}
 use Rattle.meaning.specs.Rules.{Bytes}
@@ -16,18 +20,36 @@ use Rattle.report.specs.declared.word.Word.{Word}
 use Rattle.report.specs.declared.word.Word.TheVariants.{Answer, Inconsistent, Unknown}
 use Rattle.report.proofs.Unique.{out_of_place_unique, reported_unique}
 use Rattle.stages.specs.Parts.{output, in_text, start_of}
-use Rattle.stages.specs.Stage.{on, stop, Stage, Then, Refuse}
+use Rattle.stages.specs.Stage.{Outcome, on, stop, Stage, Then, Refuse}
 use Rattle.stages.proofs.Unique.{One, then_one, refuse_one, reads_one}
+use Rattle.texts.proofs.Refusals.{number_decides}
 use Rattle.output.specs.declared.OutputRead.{OutputRead}
 use Rattle.output.specs.Output.{Report, facts, claim_none, claim_unknown, Opened, Opening, refuses, opens, on_line, Facts, Closing, closes, stray, Behind, OutputStage}
-use Rattle.output.specs.Answers.{fields, ReadsOutput}
+use Rattle.output.specs.Answers.{Gives, ReadsOutput}
+
+-- an outcome gives one answer
+given_once : (o : Outcome Report) (r s : Result OutputRead Refused) → Gives o r → Gives o s → r ≡ s
+given_once (on x) (Ok r) (Ok s) g h = ap Ok (g ∙ inv h)
+given_once (on x) (Ok r) (Err f) g h = absurd h
+given_once (on x) (Err e) s g h = absurd g
+given_once (stop n p) (Ok r) s g h = absurd g
+given_once (stop n p) (Err e) (Ok s) g h = absurd h
+given_once (stop n p) (Err e) (Err f) g h =
+    let same = number_decides e.refusal f.refusal (inv g.0 ∙ h.0) in
+    ap₂ (λ (r : Refusal) (q : Place). Err (record { refusal = r; place = q })) same (inv g.1 ∙ h.1)
+
+abbrev misplaced : Place → Refused
+misplaced place = record { refusal = Misplaced; place = place }
+
+abbrev opened : Opened → ReportRead
+opened o = record { word = o.word; facts = o.line; next = o.next }
 
 module _ (text : Bytes) where
   pub opening_one : One (Opening text)
-  opening_one x y (refuses p h) (refuses q k) = ap (λ (r : ReportRead). stop 2 (in_text output r.place)) (reported_unique text h k)
-  opening_one x y (refuses p h) (opens o k) = absurd (let e : ◌≡◌ {A = ℕ} 2 0 = ap (λ (r : ReportRead). r.code) (reported_unique text h k) in omega arith)
-  opening_one x y (opens o h) (refuses q k) = absurd (let e : ◌≡◌ {A = ℕ} 0 2 = ap (λ (r : ReportRead). r.code) (reported_unique text h k) in omega arith)
-  opening_one x y (opens o h) (opens p k) = ap (λ (r : ReportRead). on (record { word = r.word; line = r.facts; next = r.next })) (reported_unique text h k)
+  opening_one x y (refuses p h) (refuses q k) = let e = reported_unique text h k in let z : ◌≡◌ {A = Refused} (misplaced p) (misplaced q) = cc in ap (λ (r : Refused). stop 2 (in_text output r.place)) z
+  opening_one x y (refuses p h) (opens o k) = absurd (let e = reported_unique text h k in let z : ⊥ = cc in z)
+  opening_one x y (opens o h) (refuses q k) = absurd (let e = reported_unique text h k in let z : ⊥ = cc in z)
+  opening_one x y (opens o h) (opens p k) = let e = reported_unique text h k in let z : ◌≡◌ {A = ReportRead} (opened o) (opened p) = cc in ap (λ (r : ReportRead). on (record { word = r.word; line = r.facts; next = r.next })) z
 
   pub closing_one : {A : Type 0} (a : A) (at : ℕ) → One (Closing a text at)
   closing_one a at x y (closes e h) (closes f k) = refl
@@ -54,5 +76,5 @@ module _ (text : Bytes) where
       (refuse_one 1 (start_of output) (most_text < length text))
       (λ u. then_one (Opening text) behind opening_one (λ o. behind_one o.word o.line o.next.start))
 
-  pub reads_output_unique : (r s : OutputRead) → ReadsOutput text r → ReadsOutput text s → r ≡ s
-  reads_output_unique r s g h = g.so ∙ ap fields (output_one g.outcome h.outcome g.stage h.stage) ∙ inv h.so
+  pub reads_output_unique : (r s : Result OutputRead Refused) → ReadsOutput text r → ReadsOutput text s → r ≡ s
+  reads_output_unique r s g h = given_once g.outcome r s g.so (subst (λ (o : Outcome Report). Gives o s) (output_one h.outcome g.outcome h.stage g.stage) h.so)

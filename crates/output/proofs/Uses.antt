@@ -1,5 +1,5 @@
 -- What a caller makes of an output that has been read.
-use mathlib.Core.Path.{◌≡◌, refl, ap, ◌∙◌, subst}
+use mathlib.Core.Path.{◌≡◌, refl, ap, subst}
 use mathlib.Core.Bool.{true}
 use Prim.Native.Nat.{ℕ, ◌+◌, ◌≤◌, ◌<◌}
 use native.Mathlib.Omega.{arith}
@@ -7,7 +7,10 @@ use lib.ListN.{length, length-take, length-drop}
 use Rattle.texts.proofs.Counting.{start_stands, from_stands}
 use Rattle.texts.specs.Place.{Stands}
 use Rattle.output.proofs.Stages.{line_straight}
+use Rattle.std.specs.Prelude.{Ok, Err}
 use Rattle.texts.specs.declared.place.Place.{Place}
+use Rattle.texts.specs.declared.refusal.Refused.{Refused}
+use Rattle.texts.specs.Refusal.{number_of}
 use Rattle.texts.specs.Parts.{part}
 use Rattle.texts.specs.Sizes.{most_text}
 use Rattle.reading.specs.Reading.{tree}
@@ -28,7 +31,7 @@ use Rattle.stages.specs.Parts.{output, Part, in_text, start_of}
 use Rattle.stages.specs.Stage.{Outcome, on, stop, Refuse, stops, goes, given, passed, read, fault}
 use Rattle.output.specs.declared.OutputRead.{OutputRead}
 use Rattle.output.specs.Output.{Report, facts, claim_none, claim_unknown, Opened, Opening, refuses, opens, Facts, Closing, closes, stray, Behind, OutputStage, OneLine}
-use Rattle.output.specs.Answers.{fields, ReadsOutput}
+use Rattle.output.specs.Answers.{Gives, ReadsOutput}
 use Rattle.output.specs.Tables.{OutputTables, FactsHeld, FillsOutput}
 
 -- ---- a refusal: its number is one, and its part is a part of the output, with the line and column of its start
@@ -112,31 +115,28 @@ module _ (text : Bytes) where
 
 -- ---- the fields of an answer, and the outcome
 
--- without a number the word says what is handed on
+-- of what is no refusal the word says what is handed on
 abbrev pub Says : Bytes → ℕ → Word → Type 0
 Says text n Answer = (line : Place) × (fs : Program true) × (count fs ≡ n) × OutputStage text (on (facts line fs))
 Says text n Inconsistent = OutputStage text (on claim_none)
 Says text n Unknown = OutputStage text (on claim_unknown)
 
-module _ (text : Bytes) (r : OutputRead) (g : ReadsOutput text r) where
-  -- a number is that of a refusal
-  pub output_refused : (r.code ≡ 0 → ⊥) → OutputStage text (stop r.code (in_text output r.place))
-  output_refused n = go g.outcome g.stage g.so
+module _ (text : Bytes) where
+  pub output_refused : (e : Refused) → ReadsOutput text (Err e) → OutputStage text (stop (number_of e.refusal) (in_text output e.place))
+  output_refused e g = go g.outcome g.stage g.so
     where
-      go : (o : Outcome Report) → OutputStage text o → r ≡ fields o → OutputStage text (stop r.code (in_text output r.place))
-      go (on (facts line fs)) s e = absurd (n (ap (λ (x : OutputRead). x.code) e))
-      go (on claim_none) s e = absurd (n (ap (λ (x : OutputRead). x.code) e))
-      go (on claim_unknown) s e = absurd (n (ap (λ (x : OutputRead). x.code) e))
-      go (stop m p) s e = rw (e, ← (refusal text s).within) s
+      go : (o : Outcome Report) → OutputStage text o → Gives o (Err e) → OutputStage text (stop (number_of e.refusal) (in_text output e.place))
+      go (on x) s h = absurd h
+      go (stop n p) s h = rw (← h.0, ← h.1, ← (refusal text s).within) s
 
-  pub output_says : r.code ≡ 0 → Says text r.count r.word
-  output_says z = go g.outcome g.stage g.so
+  pub output_says : (r : OutputRead) → ReadsOutput text (Ok r) → Says text r.count r.word
+  output_says r g = go g.outcome g.stage g.so
     where
-      go : (o : Outcome Report) → OutputStage text o → r ≡ fields o → Says text r.count r.word
+      go : (o : Outcome Report) → OutputStage text o → Gives o (Ok r) → Says text r.count r.word
       go (on (facts line fs)) s e = rw e (line, fs, refl, s)
       go (on claim_none) s e = rw e s
       go (on claim_unknown) s e = rw e s
-      go (stop m p) s e = absurd (let k = (refusal text s).number in let q : r.code ≡ m = ap (λ (x : OutputRead). x.code) e in omega arith)
+      go (stop n p) s h = absurd h
 
 -- ANSWER: the facts of its line, which the tables hold, and where that line stands
 pub record Answering (program text : Bytes) (place : Place) (n : ℕ) (t u : OutputTables) : Type 0 where
@@ -146,11 +146,11 @@ pub record Answering (program text : Bytes) (place : Place) (n : ℕ) (t u : Out
   pub line_is : place ≡ line
   pub held : FactsHeld program text line tree_of t n u
 
-pub output_answers : (program text : Bytes) (t : OutputTables) (r : OutputRead) (u : OutputTables) → FillsOutput program text t r u → r.code ≡ 0 → r.word ≡ Answer → Answering program text r.line r.count t u
-output_answers program text t r u g z w = go g.given.outcome refl
+pub output_answers : (program text : Bytes) (t : OutputTables) (r : OutputRead) (u : OutputTables) → FillsOutput program text t (Ok r) u → r.word ≡ Answer → Answering program text r.line r.count t u
+output_answers program text t r u g w = go g.given.outcome refl g.given.so
   where
-    go : (o : Outcome Report) → g.given.outcome ≡ o → Answering program text r.line r.count t u
-    go (on (facts line fs)) e = record { line = line; tree_of = fs; stage = rw e at g.given.stage; line_is = ap (λ (x : OutputRead). x.line) (g.given.so ∙ ap fields e); held = g.filled line fs e }
-    go (on claim_none) e = absurd (let q : r.word ≡ Inconsistent = ap (λ (x : OutputRead). x.word) (g.given.so ∙ ap fields e) in let y : ◌≡◌ {A = ℕ} 0 1 = cc in omega arith)
-    go (on claim_unknown) e = absurd (let q : r.word ≡ Unknown = ap (λ (x : OutputRead). x.word) (g.given.so ∙ ap fields e) in let y : ◌≡◌ {A = ℕ} 0 1 = cc in omega arith)
-    go (stop m p) e = absurd (let k = (refusal text (rw e at g.given.stage)).number in let q : r.code ≡ m = ap (λ (x : OutputRead). x.code) (g.given.so ∙ ap fields e) in omega arith)
+    go : (o : Outcome Report) → g.given.outcome ≡ o → Gives o (Ok r) → Answering program text r.line r.count t u
+    go (on (facts line fs)) e q = record { line = line; tree_of = fs; stage = rw e at g.given.stage; line_is = ap (λ (x : OutputRead). x.line) q; held = rw q (g.filled line fs e) }
+    go (on claim_none) e q = absurd (let q : r.word ≡ Inconsistent = ap (λ (x : OutputRead). x.word) q in let y : ◌≡◌ {A = ℕ} 0 1 = cc in omega arith)
+    go (on claim_unknown) e q = absurd (let q : r.word ≡ Unknown = ap (λ (x : OutputRead). x.word) q in let y : ◌≡◌ {A = ℕ} 0 1 = cc in omega arith)
+    go (stop n p) e h = absurd h

@@ -1,9 +1,10 @@
 -- The tables that reading an output fills: what is asked of them, and what they hold behind ANSWER.
-use Rattle.std.specs.Prelude.{◌≡◌, true, List, ℕ, ◌≤◌, length}
+use Rattle.std.specs.Prelude.{◌≡◌, true, List, ℕ, ◌≤◌, length, Result}
 use Rattle.texts.specs.declared.place.Place.{Place}
+use Rattle.texts.specs.declared.refusal.Refused.{Refused}
 use Rattle.texts.specs.Sizes.{most_text}
 use Rattle.meaning.specs.Rules.{Bytes}
-use Rattle.grammar.specs.Trees.{Program}
+use Rattle.grammar.specs.Trees.{count, Program}
 use Rattle.grammar.specs.Sizes.{most_rules}
 use Rattle.stages.specs.Stage.{on, Stage}
 use Rattle.rows.specs.Growth.{Room}
@@ -37,10 +38,10 @@ FactsHeld program output line fs t n u =
     Filled program output line fs t.names t.facts t.predicates t.starts t.lengths n u.names u.facts u.predicates u.starts u.lengths
 
 -- the answer is that of an outcome which the stage may have; where that is a line with its facts, the tables hold them
-pub record FillsStage (S : Stage Report) (program output : Bytes) (t : OutputTables) (r : OutputRead) (u : OutputTables) : Type 0 where
+pub record FillsStage (S : Stage Report) (program output : Bytes) (t : OutputTables) (r : Result OutputRead Refused) (u : OutputTables) : Type 0 where
   pub given : GivenBy S r
-  pub filled : (line : Place) (fs : Program true) → given.outcome ≡ on (Report.facts line fs) → FactsHeld program output line fs t r.count u
+  pub filled : (line : Place) (fs : Program true) → given.outcome ≡ on (Report.facts line fs) → FactsHeld program output line fs t (count fs) u
 
 -- what `read_output` promises
-abbrev pub FillsOutput : (program output : Bytes) → OutputTables → OutputRead → OutputTables → Type 0
+abbrev pub FillsOutput : (program output : Bytes) → OutputTables → Result OutputRead Refused → OutputTables → Type 0
 FillsOutput program output t r u = FillsStage (OutputStage output) program output t r u

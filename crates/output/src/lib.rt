@@ -1,57 +1,31 @@
 // The solver's output as a whole: its report, the facts line behind ANSWER, and the lines behind the report.
 #![tactic(auto)]
 
-ghost use Rattle.std.specs.Prelude.{◌≡◌, ◌+◌};
+ghost use Rattle.std.specs.Prelude.{◌≡◌, ◌+◌, IfErr};
 ghost use Rattle.texts.specs.Place.{Stands, Countable};
-ghost use Rattle.output.specs.Answers.{refused, reported, counted_on, line_fields, Closes};
+ghost use Rattle.output.specs.Answers.{reported, counted_on, line_fields, Closes};
 ghost use Rattle.output.specs.Tables.{tables, Lent, FillsOutput};
 
-use factline::line::{FactsRead, put_predicates, read_line};
+use factline::line::{put_predicates, read_line};
 use report::around::{Found, out_of_place};
 use report::find_report;
 use report::word::Word;
 use texts::place::{Place, TEXT_START, along, with_len};
+use texts::refusal::{Refusal, Refused};
 use texts::sizes::MOST_TEXT;
 
-// The refusal of an output that has more.
-const TOO_LONG: u8 = 1;
-
-// The refusal for a line out of place.
-const OUT_OF_PLACE: u8 = 2;
-
-// What an output says. A refusal has its code and its place; else the code is 0, the place is empty, and the other fields hold
-// the report's word, and with ANSWER the line of the facts and their number.
+// What an output says: the report's word, and with ANSWER the line of the facts and their number.
 #[derive(Clone, Copy)]
 pub struct OutputRead {
-    pub code: u8,
-    pub place: Place,
     pub word: Word,
     pub line: Place,
     pub count: usize,
 }
 
-fn refused(code: u8, place: Place) -> OutputRead
-    ensures { result ≡ refused code place }
-{
-    OutputRead {
-        code,
-        place,
-        word: Word::Unknown,
-        line: TEXT_START,
-        count: 0,
-    }
-}
-
 fn reported(word: Word, line: Place, count: usize) -> OutputRead
     ensures { result ≡ reported word line count }
 {
-    OutputRead {
-        code: 0,
-        place: TEXT_START,
-        word,
-        line,
-        count,
-    }
+    OutputRead { word, line, count }
 }
 
 // A place on a line, as a place of the output.
@@ -63,30 +37,36 @@ fn on_line(line: Place, place: Place) -> Place
 }
 
 // What a facts line says: its refusal, at its place in the output, or ANSWER and the number of its facts.
-fn of_line(line: Place, read: FactsRead) -> OutputRead
-    requires { Countable line (line.start + read.place.start) }
+fn of_line(line: Place, read: Result<usize, Refused>) -> Result<OutputRead, Refused>
+    requires { IfErr read (λ fault. Countable line (line.start + fault.place.start)) }
     ensures { result ≡ line_fields line read }
 {
-    if read.code != 0 {
-        let place = read.place;
-        return refused(read.code, on_line(line, place));
+    match read {
+        Ok(count) => Ok(reported(Word::Answer, line, count)),
+        Err(fault) => Err(Refused {
+            refusal: fault.refusal,
+            place: on_line(line, fault.place),
+        }),
     }
-    reported(Word::Answer, line, read.count)
 }
 
 // What has been said before the lines from `at` on. Where that is no refusal, the first of them that may not stand behind the report is
 // refused.
-fn closed(output: &[u8], at: Place, said: OutputRead) -> OutputRead
+fn closed(
+    output: &[u8],
+    at: Place,
+    said: Result<OutputRead, Refused>,
+) -> Result<OutputRead, Refused>
     requires { Stands output.now at }
     ensures { Closes output.now at.start said result }
 {
-    if said.code != 0 {
-        return said;
-    }
-    let found = out_of_place(output, at);
-    match found {
-        Found::End(_) => said,
-        Found::Line(line) => refused(OUT_OF_PLACE, line),
+    let read = said?;
+    match out_of_place(output, at) {
+        Found::End(_) => Ok(read),
+        Found::Line(place) => Err(Refused {
+            refusal: Refusal::Misplaced,
+            place,
+        }),
     }
 }
 
@@ -100,28 +80,30 @@ pub fn read_output<'a>(
     predicates: &mut [u64],
     starts: &mut [u32],
     lengths: &mut [u32],
-) -> OutputRead
+) -> Result<OutputRead, Refused>
     requires { Lent program.now output.now (tables names.old facts.old predicates.old starts.old lengths.old) }
     ensures { FillsOutput program.now output.now (tables names.old facts.old predicates.old starts.old lengths.old) result (tables names.new facts.new predicates.new starts.new lengths.new) }
 {
     if MOST_TEXT < output.len() {
-        return refused(TOO_LONG, TEXT_START);
+        return Err(Refused {
+            refusal: Refusal::LongText,
+            place: TEXT_START,
+        });
     }
-    let report = find_report(output);
-    if report.code != 0 {
-        let place = report.place;
-        return refused(report.code, place);
-    }
-    let word = report.word;
+    let report = find_report(output)?;
     let line = report.facts;
     let next = report.next;
-    match word {
+    match report.word {
         Word::Answer => {
             let read = read_line(program, output, line, names, facts, starts, lengths);
-            put_predicates(&*facts, predicates, read.count);
+            put_predicates(&*facts, predicates, read.unwrap_or(0));
             closed(output, next, of_line(line, read))
         }
-        Word::Inconsistent => closed(output, next, reported(Word::Inconsistent, TEXT_START, 0)),
-        Word::Unknown => closed(output, next, reported(Word::Unknown, TEXT_START, 0)),
+        Word::Inconsistent => closed(
+            output,
+            next,
+            Ok(reported(Word::Inconsistent, TEXT_START, 0)),
+        ),
+        Word::Unknown => closed(output, next, Ok(reported(Word::Unknown, TEXT_START, 0))),
     }
 }

@@ -3,12 +3,13 @@ use mathlib.Core.Path.{◌≡◌, refl, sym, ap, ◌∙◌}
 use mathlib.Core.Bool.{Bool, true, false, ◌||◌, cond, true≢false}
 use mathlib.Core.Option.{none, some}
 use mathlib.Core.List.{List, [], ◌∷◌}
-use Prim.Native.Nat.{ℕ, ◌+◌, ◌-◌, ◌≤◌, ◌<◌}
+use Prim.Native.Nat.{ℕ, zero, suc, ◌≤◌, ◌<◌}
 use native.Mathlib.Omega.{arith}
 use native.Mathlib.Numerals.{add-one}
 use native.Mathlib.Decide.{dec_lt}
 use borrow.Author.Tests.{eqb-false, eq-eqb, ne_eqb, lt-ltb, le-ltb}
 use lib.Dec.{eqb, ltb}
+use Rattle.std.specs.List.{list_any, range_with_len}
 use Rattle.meaning.specs.Sets.{any}
 use Rattle.meaning.specs.Domain.{Domain}
 use Rattle.meaning.specs.Rules.{Bytes, Literal, positive, negated, builtin, plain, computed}
@@ -20,7 +21,6 @@ use Rattle.codes.specs.Domains.{codes, code_in_range}
 use Rattle.tables.specs.Layout.{sort_column, operation_column}
 use Rattle.tables.specs.Rows.{from, literal_column, no_operation, side_at, literal_at}
 use Rattle.tables.specs.WellFormed.{has_operation}
-use Rattle.tables.proofs.Strides.{from_more, from_end}
 use Rattle.settle.specs.Settling.{said}
 
 unfit_said : (c : ℕ) → unfit code_in_range (said c) ≡ eqb c beyond
@@ -60,21 +60,10 @@ module _ (names : List Bytes) (literals : List ℕ) (l : ℕ) (ρ : Values ℕ) 
 
 -- ---- a test of some literal, by place
 
-module _ (f : Literal ℕ → Bool) (literals : List ℕ) (end l : ℕ) where
-  abbrev pub left_over : ℕ → Bool
-  left_over k = any f (from (literal_at literals) (end - k) k)
-
-  pub some_here : l < end → f (literal_at literals l) ≡ true → left_over l ≡ true
-  unfolding any
-  some_here h e = rw (from_more (literal_at literals) end l h, e)
-
-  pub some_later : l < end → f (literal_at literals l) ≡ false → left_over l ≡ left_over (l + 1)
-  unfolding any
-  some_later h e = rw (from_more (literal_at literals) end l h, e, add-one)
-
-  pub some_end : end ≤ l → left_over l ≡ false
-  unfolding any
-  some_end h = rw (from_end (literal_at literals) end l h)
+pub some_literal : (f : Literal ℕ → Bool) (literals : List ℕ) (n k : ℕ) → list_any (λ (l : ℕ). f (literal_at literals l)) (range_with_len k n) ≡ any f (from (literal_at literals) n k)
+unfolding any from
+some_literal f literals zero k = refl
+some_literal f literals (suc n) k = rw add-one (ap (λ (b : Bool). f (literal_at literals k) || b) (some_literal f literals n (suc k)))
 
 -- ---- without an operation nothing leaves the range
 

@@ -8,6 +8,8 @@ use Prim.Native.Nat.{ℕ}
 use native.Mathlib.Omega.{arith}
 use lib.ListN.{length, take, drop}
 use lib.Seq.{take-append_seam}
+use Rattle.std.specs.Prelude.{Result, IfOk}
+use Rattle.texts.specs.declared.refusal.Refused.{Refused}
 use Rattle.meaning.specs.Rules.{Bytes}
 use Rattle.meaning.specs.Safety.{bound}
 use Rattle.grammar.specs.Trees.{empty, ◌then◌, Heads, Rule, fact, clause, Program}
@@ -20,12 +22,11 @@ use Rattle.grammar.proofs.PlainTheorems.{plain_same}
 use Rattle.stages.specs.Stage.{on}
 use Rattle.program.specs.Stage.{ProgramStage}
 use Rattle.program.proofs.Numbered.{head_variables, rule_variables}
-use Rattle.program.proofs.Taken.{read_is_read, refused_between}
+use Rattle.program.proofs.Taken.{read_is_read}
 use Rattle.program.proofs.Safe.{RuleBound, AllBound, read_is_bound}
 use Rattle.program.proofs.Bound.{taken}
 use Rattle.plainform.specs.PlainBytes.{plain_bytes}
 use Rattle.plainform.proofs.Theorems.{plain_read, plain_no_longer}
-use Rattle.plain.specs.declared.Written.{Written}
 use Rattle.plain.specs.Answer.{WritesProgram, Writes, refuses, takes}
 
 -- ---- a rule in plain form has the same variables, and means the same
@@ -69,10 +70,10 @@ pub record TakenAgain (text left : Bytes) (n : ℕ) : Type 0 where
   pub is_taken : ProgramStage (take n left) (on again)
   pub same_rules : rules_for again ≡ rules_for program
 
-program_taken : (text buffer : Bytes) (c : Program false) → ProgramStage text (on c) → (a : Written) (left : Bytes) → WritesProgram c buffer a left → a.code ≡ 0 → TakenAgain text left a.length
-program_taken text buffer c s _ _ (WritesProgram.short h) z = absurd (omega arith)
-program_taken text buffer c s _ _ (WritesProgram.writes h) z = record { program = c; was_taken = s; again = plain_form c; is_taken = rw (take-append_seam (plain_bytes c) (drop (length (plain_bytes c)) buffer)) (plain_taken text c s); same_rules = plain_same c }
+program_taken : (text buffer : Bytes) (c : Program false) → ProgramStage text (on c) → (a : Result ℕ Refused) (left : Bytes) → WritesProgram c buffer a left → IfOk a (TakenAgain text left)
+program_taken text buffer c s _ _ (WritesProgram.short h) = tt
+program_taken text buffer c s _ _ (WritesProgram.writes h) = record { program = c; was_taken = s; again = plain_form c; is_taken = rw (take-append_seam (plain_bytes c) (drop (length (plain_bytes c)) buffer)) (plain_taken text c s); same_rules = plain_same c }
 
-pub written_taken : (text buffer : Bytes) (a : Written) (left : Bytes) → Writes text buffer a left → a.code ≡ 0 → TakenAgain text left a.length
-written_taken text buffer a left (refuses n p r) z = absurd (omega (arith, (refused_between text n p r).0))
-written_taken text buffer a left (takes c s b l h) z = program_taken text buffer c s b l h z
+pub written_taken : (text buffer : Bytes) (a : Result ℕ Refused) (left : Bytes) → Writes text buffer a left → IfOk a (TakenAgain text left)
+written_taken text buffer a left (refuses e p r q) = tt
+written_taken text buffer a left (takes c s b l h) = program_taken text buffer c s b l h

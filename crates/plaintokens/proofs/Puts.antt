@@ -6,7 +6,7 @@ use native.Mathlib.Nat.{add-zero}
 use native.Mathlib.Numerals.{add-one}
 use native.Mathlib.Omega.{arith}
 use lib.ListN.{length, take, get_or, set, length-append}
-use lib.Seq.{sets, length-sets, set_out, take_all, take-suc, length-take-le}
+use lib.Seq.{sets, length-sets, take_all, take-suc, length-take-le}
 use Rattle.meaning.specs.Rules.{Bytes}
 use Rattle.plaintokens.specs.Put.{Room, Put}
 
@@ -37,11 +37,6 @@ room_first at a b h = omega (arith, length-append a b)
 
 pub room_rest : {l m : Bytes} {at n : ℕ} {a : Bytes} (b : Bytes) → Put l at a n m → Room at (a ++ b) → Room n b
 room_rest {l} {m} {at} {n} {a} b p h = omega (arith, length-append a b, p.next)
-
--- ---- one byte
-
-pub put_outside : (buffer : Bytes) (at byte : ℕ) → length buffer ≤ at → Put buffer at (byte ∷ []) (at + 1) buffer
-put_outside buffer at byte h = record { next = refl; laid = inv (set_out buffer at byte h) }
 
 -- ---- bytes one after the other
 

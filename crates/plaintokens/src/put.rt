@@ -21,10 +21,8 @@ pub fn put_bytes(buffer: &mut [u8], at: usize, bytes: &[u8]) -> usize
     ensures { Put buffer.old at bytes.now result buffer.new }
 {
     let mut next = at;
-    let mut i = 0;
-    while i < bytes.len() {
-        next = put_byte(buffer, next, bytes[i]);
-        i += 1;
+    for byte in bytes {
+        next = put_byte(buffer, next, *byte);
     }
     next
 }

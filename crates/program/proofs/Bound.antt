@@ -7,6 +7,8 @@ use Prim.Native.Nat.{ℕ, suc, ◌+◌, ◌≤◌}
 use native.Mathlib.Omega.{arith}
 use native.Mathlib.Numerals.{add-one}
 use lib.ListN.{length, length-append}
+use Rattle.std.specs.Prelude.{None}
+use Rattle.std.proofs.lemmas.Option.{none-some}
 use Rattle.reading.specs.Reading.{tokens, unplaced, tree, Reading}
 use Rattle.reading.proofs.Lists.{tokens_append, unplaced_append}
 use Rattle.texts.specs.Place.{text_start}
@@ -22,7 +24,7 @@ use Rattle.grammar.specs.Abstraction.{rule_for, rules_for}
 use Rattle.syntax.specs.Ahead.{ends_rule}
 use Rattle.syntax.specs.Text.{end_of}
 use Rattle.stages.specs.Stage.{on, goes, passed, without, Reads}
-use Rattle.rulesafety.specs.Unbound.{no_unbound, all_bound}
+use Rattle.rulesafety.specs.Unbound.{all_bound}
 use Rattle.program.specs.Unbound.{Tokens, dots, Unbound}
 use Rattle.program.specs.Stage.{tokens_of, ProgramStage}
 use Rattle.program.proofs.Segments.{to_dot}
@@ -53,11 +55,8 @@ dot_length (t ∷ ts) (u ∷ front) rest e d = go (ends_rule u) refl d (dot_leng
     go false h k rec = rw (first, h) (ap suc (rec k))
 
 -- what is remembered where nothing was found
-no_earlier : (rules : List (MeantRule Value)) (ts : Tokens) (n : ℕ) → Remembered rules ts text_start n no_unbound → (j m : ℕ) → Unbound rules ts j m → n ≤ j
-no_earlier rules ts n (first_case i x f e) = absurd (no_truth (ap (λ u. u.found) e))
-  where
-    no_truth : false ≡ true → ⊥
-    no_truth h = let z : ◌≡◌ {A = ℕ} 0 1 = ap (λ b. cond b 1 0) h in omega arith
+no_earlier : (rules : List (MeantRule Value)) (ts : Tokens) (n : ℕ) → Remembered rules ts text_start n None → (j m : ℕ) → Unbound rules ts j m → n ≤ j
+no_earlier rules ts n (first_case i x f e) = absurd (none-some _ e)
 no_earlier rules ts n (no_case h e) = h
 
 -- no case stands at a token of a rule whose variables are bound, where none stands before it
@@ -74,7 +73,7 @@ module _ (p : Program false) (r : Rule false) (rest : List Token) (ts : Tokens) 
   over_rule : ((j n : ℕ) → Unbound rules ts j n → length (tokens (spell p)) ≤ j) → (j n : ℕ) → Unbound rules ts j n → length (tokens (spell p)) + length (tokens (spell_rule (Mark.rule (suc (count p))) r)) ≤ j
   over_rule none j n x =
       let before : (i k : ℕ) → Unbound rules (s.before ++ s.ahead) i k → length s.before ≤ i = λ i k y. omega (arith, none i k (rw s.whole at y), passed_length) in
-      let kept = remember_on (rules_for p) more (rule_for r) s.before s.ahead s.new s.ended text_start no_unbound no_unbound (no_case before refl) (λ h. refl) (λ h. all_bound (λ y l. b y (omega (arith, s.many))) refl) in
+      let kept = remember_on (rules_for p) more (rule_for r) s.before s.ahead s.new s.ended text_start None None (no_case before refl) (all_bound (λ y l. b y (omega (arith, s.many))) refl) in
       omega (arith, no_earlier rules (s.before ++ s.ahead) (length s.before + length (to_dot s.ahead)) kept j n (rw s.whole x), passed_length, rule_length)
 
 -- no case stands at a token of these rules

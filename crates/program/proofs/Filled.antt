@@ -113,12 +113,12 @@ module _ (program output : Bytes) (names₀ rules₀ literals₀ : List ℕ) (as
       agrees : (k : ℕ) → k < n → Agrees rules rules' literals literals' k
       agrees k h = later_agrees rules rules' literals literals' k n s.rules_kept s.literals_kept h
 
-      pub filled_on : Filled program output names₀ rules₀ literals₀ (p then x) r.progress.place (n + 1) names' rules' literals'
+      pub filled_on : Filled program output names₀ rules₀ literals₀ (p then x) r.behind (n + 1) names' rules' literals'
       unfolding rules_for
       filled_on =
           record {
             placed = s.placed;
-            grows = grows_then program output g.grows r.progress.place.start s.grows (let f = s.forward in omega arith);
+            grows = grows_then program output g.grows r.behind.start s.grows (let f = s.forward in omega arith);
             rules_kept = kept_then (kept_wider g.rules_kept 0 ((n + 1) * rule_stride) (omega arith) (omega arith)) (kept_wider s.rules_kept 0 ((n + 1) * rule_stride) (omega arith) (omega arith));
             literals_kept = kept_then (kept_wider g.literals_kept 0 ((n + 1) * rule_rows * literal_stride) (omega arith) (omega arith)) (kept_wider s.literals_kept 0 ((n + 1) * rule_rows * literal_stride) (omega arith) (omega arith));
             owned = λ k h. owned k h (ltb k n) refl;

@@ -10,6 +10,8 @@ use native.Mathlib.Nat.{add-zero}
 use lib.Dec.{ltb}
 use lib.ListN.{length, length-append, get_or, get_elem?}
 use borrow.Author.Tests.{ltb-true, ltb-false}
+use Rattle.std.specs.Prelude.{Option, Some, None}
+use Rattle.std.specs.Option.{option_or}
 use Rattle.texts.specs.declared.place.Place.{Place}
 use Rattle.reading.specs.Reading.{unplaced, seen}
 use Rattle.reading.specs.Faults.{place_at}
@@ -22,8 +24,7 @@ use Rattle.meaning.proofs.Safety.{scan_exact}
 use Rattle.grammar.specs.Sizes.{programs}
 use Rattle.texts.specs.Place.{text_start}
 use Rattle.syntax.specs.Ahead.{ends_rule, firsts}
-use Rattle.rulesafety.specs.declared.unbound.Unbound.{Unbound as Found}
-use Rattle.rulesafety.specs.Unbound.{no_unbound, FirstUnbound, found, all_bound}
+use Rattle.rulesafety.specs.Unbound.{FirstUnbound, found, all_bound}
 use Rattle.program.specs.Unbound.{Tokens, dots, met_behind, Unbound}
 use Rattle.program.proofs.Segments.{FirstAt, first_of, number_of_first, first_order, standing, first_standing, to_dot, before_or_behind, first_inside}
 
@@ -62,11 +63,11 @@ behind {A} (a ∷ l) m (b ∷ l') m' e h = go (behind l m l' m')
 
 -- ---- what is remembered
 
-pub data Remembered (rules : List (Rule Value)) (ts : Tokens) (end : Place) (n : ℕ) (u : Found) : Type 0 where
-  first_case : (i : ℕ) → Unbound rules ts i 5 → ((j m : ℕ) → Unbound rules ts j m → i ≤ j) → u ≡ record { found = true; place = place_at end ts i } → Remembered rules ts end n u
-  no_case : ((j m : ℕ) → Unbound rules ts j m → n ≤ j) → u ≡ no_unbound → Remembered rules ts end n u
+pub data Remembered (rules : List (Rule Value)) (ts : Tokens) (end : Place) (n : ℕ) (u : Option Place) : Type 0 where
+  first_case : (i : ℕ) → Unbound rules ts i 5 → ((j m : ℕ) → Unbound rules ts j m → i ≤ j) → u ≡ Some (place_at end ts i) → Remembered rules ts end n u
+  no_case : ((j m : ℕ) → Unbound rules ts j m → n ≤ j) → u ≡ None → Remembered rules ts end n u
 
-pub remembered_start : (rules : List (Rule Value)) (ts : Tokens) (end : Place) → Remembered rules ts end 0 no_unbound
+pub remembered_start : (rules : List (Rule Value)) (ts : Tokens) (end : Place) → Remembered rules ts end 0 None
 remembered_start rules ts end = no_case (λ j m x. omega arith) refl
 
 -- a rule behind the tokens `before`, which are those of the rules rs
@@ -135,8 +136,8 @@ module _ (rs more : List (Rule Value)) (rule : Rule Value) (before ahead : Token
 
   -- where this rule has an unbound variable, the first of them is the first case
   module _ (end : Place) (none_before : (j m : ℕ) → Unbound rules ts j m → length before ≤ j) where
-    remember_found : (r : Found) (x : ℕ) → x < length (firsts [] ahead) → bound rule x ≡ false → ((y : ℕ) → y < x → bound rule y ≡ true) → r ≡ record { found = true; place = get_or (firsts [] ahead) x text_start } → (n : ℕ) → Remembered rules ts end n r
-    remember_found r x h u low e n = first_case (length before + f.0) (case_of f.0 x _ at_x u) (λ j m c. first j (in_rule j m c (none_before j m c))) (e ∙ ap (λ p. record { found = true; place = p }) (inv (place_of_case end f.0 x _ at_x)))
+    remember_found : (r : Option Place) (x : ℕ) → x < length (firsts [] ahead) → bound rule x ≡ false → ((y : ℕ) → y < x → bound rule y ≡ true) → r ≡ Some (get_or (firsts [] ahead) x text_start) → (n : ℕ) → Remembered rules ts end n r
+    remember_found r x h u low e n = first_case (length before + f.0) (case_of f.0 x _ at_x u) (λ j m c. first j (in_rule j m c (none_before j m c))) (e ∙ ap (λ p. Some p) (inv (place_of_case end f.0 x _ at_x)))
       where
         f : (i : ℕ) × FirstAt [] ahead i (0 + x) (get_or (firsts [] ahead) x text_start)
         f = first_of [] ahead x text_start h
@@ -155,7 +156,7 @@ module _ (rs more : List (Rule Value)) (rule : Rule Value) (before ahead : Token
         first j (inl c) = omega (arith, c.same, first_order [] ahead f.0 c.position x c.variable _ c.place at_x c.first (not_lower j c))
         first j (inr l) = omega (arith, first_inside [] ahead f.0 x _ at_x)
 
-    remember_bound : (r : Found) → ((x : ℕ) → x < length (firsts [] ahead) → bound rule x ≡ true) → r ≡ no_unbound → Remembered rules ts end (length before + length (to_dot ahead)) r
+    remember_bound : (r : Option Place) → ((x : ℕ) → x < length (firsts [] ahead) → bound rule x ≡ true) → r ≡ None → Remembered rules ts end (length before + length (to_dot ahead)) r
     remember_bound r all e = no_case (λ j m c. later j (in_rule j m c (none_before j m c))) e
       where
         later : (j : ℕ) → InRule j ⊎ (length before + length (to_dot ahead) ≤ j) → length before + length (to_dot ahead) ≤ j
@@ -165,13 +166,10 @@ module _ (rs more : List (Rule Value)) (rule : Rule Value) (before ahead : Token
         later j (inr l) = l
 
   -- over the rule: what was found before is kept, else its first unbound variable is looked for
-  pub remember_on : (end : Place) (u r : Found) → Remembered rules ts end (length before) u → (u.found ≡ true → r ≡ u) → (u.found ≡ false → FirstUnbound (bound rule) (firsts [] ahead) r) → Remembered rules ts end (length before + length (to_dot ahead)) r
-  remember_on end u r (first_case i c f e) kept looked = first_case i c f (kept (ap (λ x. x.found) e) ∙ e)
-  remember_on end u r (no_case h e) kept looked = go (looked (ap (λ x. x.found) e))
-    where
-      go : FirstUnbound (bound rule) (firsts [] ahead) r → Remembered rules ts end (length before + length (to_dot ahead)) r
-      go (found x b o l q) = remember_found end h r x b o l q (length before + length (to_dot ahead))
-      go (all_bound all q) = remember_bound end h r all q
+  pub remember_on : (end : Place) (u r : Option Place) → Remembered rules ts end (length before) u → FirstUnbound (bound rule) (firsts [] ahead) r → Remembered rules ts end (length before + length (to_dot ahead)) (option_or u r)
+  remember_on end u r (first_case i c f e) looked = first_case i c f (rw e)
+  remember_on end u r (no_case h e) (found x b o l q) = rw e (remember_found end h r x b o l q (length before + length (to_dot ahead)))
+  remember_on end u r (no_case h e) (all_bound all q) = rw e (remember_bound end h r all q)
 
 -- ---- at the end of the rules
 

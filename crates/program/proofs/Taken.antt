@@ -2,7 +2,7 @@
 use mathlib.Core.Path.{◌≡◌, refl, sym as inv, ap}
 use mathlib.Core.Bool.{Bool, true, false}
 use mathlib.Core.Logic.{◌⊎◌, inl, inr}
-use mathlib.Core.List.{List, []}
+use mathlib.Core.List.{[]}
 use Prim.Native.Nat.{ℕ, suc, ◌≤◌, ◌<◌}
 use native.Mathlib.Omega.{arith}
 use lib.Dec.{ltb}
@@ -22,11 +22,8 @@ use Rattle.syntax.specs.Text.{end_of}
 use Rattle.stages.specs.Parts.{Part, program, in_text, start_of}
 use Rattle.stages.specs.Stage.{Outcome, on, stop, Stage, stops, goes, ◌⟫◌, Is, Refuse, given, passed, First, first, without, Reads}
 use Rattle.stages.proofs.Unique.{on_stop, on_inj}
-use Rattle.program.specs.declared.ProgramRead.{ProgramRead}
 use Rattle.program.specs.Unbound.{Unbound}
 use Rattle.program.specs.Stage.{tokens_of, token_part, ProgramStage}
-use Rattle.program.specs.Rules.{FillsRules}
-use Rattle.program.specs.Answer.{fields, ReadsProgram}
 
 -- ---- a text that is read
 
@@ -127,23 +124,3 @@ module _ (text : Bytes) where
       one : Refuse 1 (start_of program) (most_text < length text) (stop n p) ⊎ ((u : Unit {0}) × ReadsOn (stop n p)) → Between n
       one (inl k) = by_size (stop n p) n p refl k
       one (inr k) = two (halted (stop n p) n p refl k.1)
-
--- ---- the answer's fields
-
-module _ {text output : Bytes} {names rules literals names' rules' literals' : List ℕ} {r : ProgramRead} (g : ReadsProgram text output names rules literals r names' rules' literals') where
-  -- a program that is read, and its rules in the tables
-  pub taken_where_zero : r.code ≡ 0 → (c : Program false) × ProgramStage text (on c) × FillsRules text output names rules literals c r.count names' rules' literals'
-  unfolding fields
-  taken_where_zero z = go g.outcome g.reads g.so g.filled
-    where
-      go : (o : Outcome (Program false)) → ProgramStage text o → r ≡ fields o → ((c : Program false) → o ≡ on c → FillsRules text output names rules literals c r.count names' rules' literals') → (c : Program false) × ProgramStage text (on c) × FillsRules text output names rules literals c r.count names' rules' literals'
-      go (on c) h e f = (c, h, f c refl)
-      go (stop n p) h e f = absurd (omega (arith, (refused_between text n p h).0, ap (λ x. x.code) e))
-
-  pub refused_elsewhere : (r.code ≡ 0 → ⊥) → (p : Part) × ProgramStage text (stop r.code p) × (r.place ≡ p.place)
-  unfolding fields
-  refused_elsewhere z = go g.outcome g.reads g.so
-    where
-      go : (o : Outcome (Program false)) → ProgramStage text o → r ≡ fields o → (p : Part) × ProgramStage text (stop r.code p) × (r.place ≡ p.place)
-      go (on c) h e = absurd (z (ap (λ x. x.code) e))
-      go (stop n p) h e = let y : r.code ≡ n = ap (λ x. x.code) e in (p, rw y h, ap (λ x. x.place) e)

@@ -1,14 +1,15 @@
 -- A rule of a program in the tables: what the function that puts it there promises.
-use Rattle.std.specs.Prelude.{◌≡◌, Bool, true, false, List, [], ℕ, ◌+◌, ◌-◌, ◌*◌, ◌≤◌, ◌<◌, length}
+use Rattle.std.specs.Prelude.{◌≡◌, Bool, true, false, Option, Some, None, Result, Ok, Err, List, [], ℕ, ◌+◌, ◌-◌, ◌*◌, ◌≤◌, ◌<◌, length}
 use Rattle.std.proofs.Math.Option.{some}
 use Rattle.reading.specs.Reading.{tree, refused}
 use Rattle.texts.specs.Place.{Stands as PlaceStands}
+use Rattle.texts.specs.declared.refusal.Refused.{Refused}
+use Rattle.texts.specs.Refusal.{number_of}
 use Rattle.meaning.specs.Sets.{In}
 use Rattle.meaning.specs.Rules.{Bytes}
 use Rattle.meaning.specs.Safety.{bound, safe}
 use Rattle.grammar.specs.Trees.{◌then◌, Rule as Tree, Program}
 use Rattle.grammar.specs.Abstraction.{rule_for}
-use Rattle.syntax.specs.declared.token.Progress.{Progress}
 use Rattle.syntax.specs.Text.{placed_from}
 use Rattle.syntax.specs.Ahead.{firsts, behind_dot}
 use Rattle.syntax.specs.Rules.{behind_rules, RulePlace}
@@ -25,7 +26,7 @@ use Rattle.rows.specs.Growth.{Grows}
 use Rattle.terms.specs.declared.cursor.Cursor.{Cursor}
 use Rattle.clauses.specs.Heads.{ReadyRule}
 use Rattle.rulesafety.specs.RuleRow.{first_of_body}
-use Rattle.rulesafety.specs.Unbound.{no_unbound, FirstUnbound}
+use Rattle.rulesafety.specs.Unbound.{FirstUnbound}
 use Rattle.program.specs.declared.put.RuleStart.{RuleStart}
 use Rattle.program.specs.declared.put.RulePut.{RulePut}
 
@@ -51,22 +52,37 @@ pub record Owns (rules : List ℕ) (number : ℕ) : Type 0 where
 
 -- the rows stand for the rule x, and are as the engine asks where it is safe; its first variable that is not bound; where it ends
 pub record Stands (program output : Bytes) (names rules literals : List ℕ) (s : RuleStart) (x : Tree false) (r : RulePut) (names' rules' literals' : List ℕ) : Type 0 where
-  pub forward : s.at.start ≤ r.progress.place.start
-  pub placed : PlaceStands program r.progress.place
-  pub grows : Grows program output names (r.progress.place.start - s.at.start) names'
+  pub forward : s.at.start ≤ r.behind.start
+  pub placed : PlaceStands program r.behind
+  pub grows : Grows program output names (r.behind.start - s.at.start) names'
   pub rules_kept : Kept (s.number * rule_stride) (s.number * rule_stride + rule_stride) rules rules'
   pub literals_kept : Kept (s.number * rule_rows * literal_stride) ((s.number * rule_rows + rule_rows) * literal_stride) literals literals'
   pub stands : RelatedRule (CodedName (names_of program output names')) (Coded (names_of program output names')) (rule_at rules' literals' s.number) (rule_for x)
   pub owns : Owns rules' s.number
   pub row : safe (rule_for x) ≡ true → RuleRow rules' literals' s.number
   pub unbound : FirstUnbound (bound (rule_for x)) (firsts [] (placed_from false program s.at.start)) r.unbound
-  pub rest : behind_dot (placed_from false program s.at.start) ≡ some (placed_from false program r.progress.place.start)
+  pub rest : behind_dot (placed_from false program s.at.start) ≡ some (placed_from false program r.behind.start)
 
--- a rule, the end of the text, or a refusal
-pub data PutsRule (program output : Bytes) (names rules literals : List ℕ) (s : RuleStart) (r : RulePut) (names' rules' literals' : List ℕ) : Type 0 where
-  read : r.progress.code ≡ 0 → r.ended ≡ false → s.over ≡ false → (x : Tree false) → Stands program output names rules literals s x r names' rules' literals' → ((h : RulePlace false s.over) → behind_rules false program h.rules s.at.start ≡ behind_rules false program (h.rules then x) r.progress.place.start) → PutsRule program output names rules literals s r names' rules' literals'
-  ended : r.progress.code ≡ 0 → r.ended ≡ true → r.unbound ≡ no_unbound → names' ≡ names → rules' ≡ rules → literals' ≡ literals → ((p : Program false) → behind_rules false program p s.at.start ≡ tree p) → PutsRule program output names rules literals s r names' rules' literals'
-  stopped : 2 ≤ r.progress.code → ((h : RulePlace false s.over) → behind_rules false program h.rules s.at.start ≡ refused r.progress.code r.progress.place) → PutsRule program output names rules literals s r names' rules' literals'
+-- a rule: behind these rules what lies ahead is what lies behind it too
+pub record PutGoes (program output : Bytes) (names rules literals : List ℕ) (s : RuleStart) (r : RulePut) (names' rules' literals' : List ℕ) : Type 0 where
+  pub kept : s.over ≡ false
+  pub rule : Tree false
+  pub stands : Stands program output names rules literals s rule r names' rules' literals'
+  pub ahead : (h : RulePlace false s.over) → behind_rules false program h.rules s.at.start ≡ behind_rules false program (h.rules then rule) r.behind.start
 
-abbrev pub refused_put : Progress → Bool → RulePut
-refused_put p e = record { progress = p; ended = e; unbound = no_unbound }
+-- the end of the text: nothing changes
+pub record PutEnds (program : Bytes) (names rules literals : List ℕ) (s : RuleStart) (names' rules' literals' : List ℕ) : Type 0 where
+  pub same_names : names' ≡ names
+  pub same_rules : rules' ≡ rules
+  pub same_literals : literals' ≡ literals
+  pub answer : (p : Program false) → behind_rules false program p s.at.start ≡ tree p
+
+-- a refusal, whatever rules stand before it
+pub record PutStops (program : Bytes) (s : RuleStart) (e : Refused) : Type 0 where
+  pub refuses : 2 ≤ number_of e.refusal
+  pub answer : (h : RulePlace false s.over) → behind_rules false program h.rules s.at.start ≡ refused (number_of e.refusal) e.place
+
+abbrev pub PutsRule : Bytes → Bytes → List ℕ → List ℕ → List ℕ → RuleStart → Result (Option RulePut) Refused → List ℕ → List ℕ → List ℕ → Type 0
+PutsRule program output names rules literals s (Ok (Some r)) names' rules' literals' = PutGoes program output names rules literals s r names' rules' literals'
+PutsRule program output names rules literals s (Ok None) names' rules' literals' = PutEnds program names rules literals s names' rules' literals'
+PutsRule program output names rules literals s (Err e) names' rules' literals' = PutStops program s e

@@ -1,13 +1,12 @@
 // A rule of a program, read into the tables: its literals' rows and its own, and the first of its variables that is not bound.
-ghost use Rattle.std.specs.Prelude.{◌≡◌};
-ghost use Rattle.program.specs.Puts.{Puttable, PutsRule, refused_put};
+ghost use Rattle.program.specs.Puts.{Puttable, PutsRule};
 
 use clauses::clause::rule_at;
 use rulesafety::rule_row::put_rule_row;
-use rulesafety::unbound::{NO_UNBOUND, Unbound, first_unbound};
-use syntax::token::Progress;
+use rulesafety::unbound::first_unbound;
 use terms::cursor::Cursor;
 use texts::place::Place;
+use texts::refusal::Refused;
 
 // Where a rule starts in the program, its number, and whether it is one too many.
 #[derive(Clone, Copy)]
@@ -17,26 +16,14 @@ pub struct RuleStart {
     pub over: bool,
 }
 
-// How far reading has come. Where `ended`, there is no rule, because the text ends.
+// A rule in the tables: the place behind its dot, and the first of its variables that is not bound.
 #[derive(Clone, Copy)]
 pub struct RulePut {
-    pub progress: Progress,
-    pub ended: bool,
-    pub unbound: Unbound,
+    pub behind: Place,
+    pub unbound: Option<Place>,
 }
 
-// There is no rule, or it was refused.
-fn none_put(progress: Progress, ended: bool) -> RulePut
-    ensures { result ≡ refused_put progress ended }
-{
-    RulePut {
-        progress,
-        ended,
-        unbound: NO_UNBOUND,
-    }
-}
-
-// The rule that starts there, in the rows of its number. `variables` is a table for its variables.
+// The rule that starts there, in the rows of its number; none where the text ends. `variables` is a table for its variables.
 pub fn put_rule<'a>(
     program: &'a [u8],
     output: &'a [u8],
@@ -45,7 +32,7 @@ pub fn put_rule<'a>(
     rules: &mut [u64],
     literals: &mut [u64],
     start: RuleStart,
-) -> RulePut
+) -> Result<Option<RulePut>, Refused>
     requires { Puttable program.now output.now names.old variables.old rules.old literals.old start }
     ensures { PutsRule program.now output.now names.old rules.old literals.old start result names.new rules.new literals.new }
 {
@@ -58,19 +45,13 @@ pub fn put_rule<'a>(
         over: start.over,
         met: 0,
     };
-    let read = rule_at(program, output, names, variables, literals, cursor, number);
-    if read.progress.code != 0 {
-        return none_put(read.progress, false);
-    }
-    if read.ended {
-        return none_put(read.progress, true);
-    }
-    let bound = put_rule_row(rules, literals, number, read.heads, read.count);
-    let unbound = first_unbound(bound, variables, read.met);
-    let progress = read.progress;
-    RulePut {
-        progress,
-        ended: false,
+    let Some(rule) = rule_at(program, output, names, variables, literals, cursor, number)? else {
+        return Ok(None);
+    };
+    let bound = put_rule_row(rules, literals, number, rule.heads, rule.count);
+    let unbound = first_unbound(bound, variables, rule.met);
+    Ok(Some(RulePut {
+        behind: rule.behind,
         unbound,
-    }
+    }))
 }

@@ -29,9 +29,6 @@ module _ (names : List Bytes) where
       go true e more = subst (λ (n : ℕ). InOrder names (get_or l n 0) (get_or l (suc j) 0)) (sym (eqb-true i j e)) (s.next j k)
       go false e more = let n = eqb-false i j e in in_order_through (more (omega arith) (omega arith)) (s.next j k)
 
-  pub short_sorted : (l : List ℕ) → length l < 2 → Sorted names l
-  short_sorted l h = record { next = λ p k. absurd (omega arith) }
-
 -- ---- a list with each number below n once
 
 module _ (n : ℕ) (order : List ℕ) (same : (x : ℕ) → times x order ≡ times x (numbers n)) where

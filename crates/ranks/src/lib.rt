@@ -10,14 +10,13 @@ ghost use Rattle.ranks.specs.Sorting.{Sorted, Chosen, Merges, Sorts, Apart, Inve
 use names::bytewise::comes_before;
 
 // The numbers from 0 on, one in each place.
+#[tactic(auto, using(crate::proofs::Filling::numbered_more), unfolding(crate::specs::Sorting::numbers))]
 fn number(order: &mut [u32])
     requires { length order.old ≤ most_names }
     ensures { order.new ≡ numbers (length order.old) }
 {
-    let mut i = 0;
-    while i < order.len() {
-        order[i] = i as u32;
-        i += 1;
+    for (i, number) in order.iter_mut().enumerate() {
+        *number = i as u32;
     }
 }
 
@@ -65,6 +64,7 @@ fn merge<'a>(
     requires { Table program.now output.now names.now × Sorted (names_of program.now output.now names.now) left.now × Sorted (names_of program.now output.now names.now) right.now × (length merged.old ≡ length left.now + length right.now) }
     ensures { Merges (names_of program.now output.now names.now) left.now right.now merged.new }
 {
+    // Two places are counted, and each turn moves one of them: no `for` over one slice says that more plainly.
     let mut i: usize = 0;
     let mut j: usize = 0;
     while i + j < merged.len() {
@@ -75,18 +75,6 @@ fn merge<'a>(
             merged[i + j] = right[j];
             j += 1;
         }
-    }
-}
-
-// The numbers of a slice, put into another of its length.
-fn copy(from: &[u32], to: &mut [u32])
-    requires { length to.old ≡ length from.now }
-    ensures { to.new ≡ from.now }
-{
-    let mut i = 0;
-    while i < to.len() {
-        to[i] = from[i];
-        i += 1;
     }
 }
 
@@ -110,7 +98,7 @@ fn join<'a>(
         &order[middle..],
         scratch,
     );
-    copy(&*scratch, order);
+    order.copy_from_slice(&*scratch);
 }
 
 // Sorts numbers by their names: each half, and then both together.
@@ -150,10 +138,8 @@ fn place(order: &[u32], ranks: &mut [u32])
     requires { (length order.now ≤ most_names) × Apart order.now × ((k : ℕ) → k < length order.now → get_or order.now k 0 < length ranks.old) }
     ensures { Inverse order.now ranks.new }
 {
-    let mut k = 0;
-    while k < order.len() {
-        ranks[order[k] as usize] = k as u32;
-        k += 1;
+    for (k, number) in order.iter().enumerate() {
+        ranks[*number as usize] = k as u32;
     }
 }
 

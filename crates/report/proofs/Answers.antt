@@ -3,7 +3,9 @@ use Prim.Native.Nat.{ℕ}
 use mathlib.Core.Path.{◌≡◌, refl, sym, ap, ◌∙◌}
 use mathlib.Core.Bool.{Bool, true, false, true≢false}
 use mathlib.Core.List.{List, [], ◌∷◌}
+use Rattle.std.specs.Prelude.{Result}
 use Rattle.texts.specs.declared.place.Span.{Span}
+use Rattle.texts.specs.declared.refusal.Refused.{Refused}
 use Rattle.texts.specs.Parts.{bytes_in}
 use Rattle.report.specs.declared.word.Word.{Word}
 use Rattle.report.specs.declared.word.Word.TheVariants.{Answer, Inconsistent, Unknown}
@@ -53,16 +55,16 @@ module _ (text : List ℕ) (l : Span) (behind : List Span) (f : FirstOther text 
   none_said a i u Inconsistent = silent Inconsistent i
   none_said a i u Unknown = silent Unknown u
 
-  unfoldable by_word : (a i u : Bool) → test Answer ≡ a → test Inconsistent ≡ i → test Unknown ≡ u → (r : Report) × Reported text r
+  unfoldable by_word : (a i u : Bool) → test Answer ≡ a → test Inconsistent ≡ i → test Unknown ≡ u → (r : Result Report Refused) × Reported text r
   by_word true i u ea ei eu = (reported text Answer behind, says l behind f Answer ea)
   by_word false true u ea ei eu = (reported text Inconsistent behind, says l behind f Inconsistent ei)
   by_word false false true ea ei eu = (reported text Unknown behind, says l behind f Unknown eu)
   by_word false false false ea ei eu = (refused (located text l), stray l behind f (none_said ea ei eu))
 
-unfoldable by_first : (text : List ℕ) → Firsts text (lines text) → (r : Report) × Reported text r
+unfoldable by_first : (text : List ℕ) → Firsts text (lines text) → (r : Result Report Refused) × Reported text r
 by_first text (all_idle a) = (refused (end_of text), missing a)
 by_first text (first l behind f) = by_word text l behind f (test text l behind f Answer) (test text l behind f Inconsistent) (test text l behind f Unknown) refl refl refl
 
-unfoldable pub report_of : (text : List ℕ) → (r : Report) × Reported text r
+unfoldable pub report_of : (text : List ℕ) → (r : Result Report Refused) × Reported text r
 unfolding firsts_more firsts by_word by_first
 report_of text = by_first text (firsts text (lines text))

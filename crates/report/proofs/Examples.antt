@@ -2,7 +2,9 @@
 use Prim.Native.Nat.{ℕ}
 use mathlib.Core.Path.{◌≡◌, refl, subst}
 use mathlib.Core.List.{List, [], ◌∷◌, ◌++◌, map, head-eq_of_cons-eq, tail-eq_of_cons-eq}
+use Rattle.std.specs.Prelude.{Result, Ok, Err}
 use Rattle.texts.specs.declared.place.Place.{Place}
+use Rattle.texts.specs.declared.refusal.Refused.{Refused}
 use Rattle.texts.specs.Place.{newlines, since, line_of, column_of, text_start}
 use Rattle.report.specs.declared.word.Word.TheVariants.{Answer, Inconsistent, Unknown}
 use Rattle.report.specs.declared.around.Found.{Found}
@@ -16,7 +18,7 @@ use Rattle.report.proofs.Answers.{out_of_place_of, report_of}
 
 record Example : Type 0 where
   output : List ℕ
-  report : Report
+  report : Result Report Refused
   behind : Found
 
 -- the bytes of `a.`
@@ -60,21 +62,26 @@ examples =
     record { output = spelling Inconsistent ++ (10 ∷ 10 ∷ 32 ∷ 9 ∷ []); report = found Inconsistent text_start (part 13 0 2 1); behind = Line (part 14 2 3 1) } ∷
     []
 
+-- where the lines behind the report begin; behind a refusal every line is looked at
+abbrev next_of : Result Report Refused → ℕ
+next_of (Ok r) = r.next.start
+next_of (Err e) = 0
+
 abbrev answered : Example → Example
 answered x =
     let r = (report_of x.output).0 in
-    record { output = x.output; report = r; behind = (out_of_place_of x.output r.next.start).0 }
+    record { output = x.output; report = r; behind = (out_of_place_of x.output (next_of r)).0 }
 
 abbrev Right : List Example → Type 0
 Right [] = Unit {0}
-Right (x ∷ xs) = Reported x.output x.report × OutOfPlace x.output x.report.next.start x.behind × Right xs
+Right (x ∷ xs) = Reported x.output x.report × OutOfPlace x.output (next_of x.report) x.behind × Right xs
 
 all_right : (xs : List Example) → map answered xs ≡ xs → Right xs
 all_right [] e = tt
 all_right (x ∷ xs) e =
     let h : answered x ≡ x = head-eq_of_cons-eq e in (
       subst (λ (y : Example). Reported x.output y.report) h (report_of x.output).1,
-      subst (λ (y : Example). OutOfPlace x.output y.report.next.start y.behind) h (out_of_place_of x.output (report_of x.output).0.next.start).1,
+      subst (λ (y : Example). OutOfPlace x.output (next_of y.report) y.behind) h (out_of_place_of x.output (next_of (report_of x.output).0)).1,
       all_right xs (tail-eq_of_cons-eq e),
     )
 

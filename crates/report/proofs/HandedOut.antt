@@ -1,16 +1,50 @@
 -- Laws of `HandsOut`: a reader hands out the lines from its place on, in order, and ends; and it hands out nothing else.
-use Prim.Native.Nat.{ℕ}
-use mathlib.Core.Path.{◌≡◌, refl, sym, ap, ◌∙◌}
+use Prim.Native.Nat.{ℕ, ◌+◌, ◌≤◌, ◌<◌}
+use native.Mathlib.Omega.{arith}
+use mathlib.Core.Path.{◌≡◌, refl, sym, ap, ap₂, ◌∙◌}
 use mathlib.Core.Bool.{Bool, true, false}
 use mathlib.Core.List.{List, [], ◌∷◌, nil≢cons}
+use lib.ListN.{length}
 use denote.Ref.{Bor}
 use borrow.Author.Tests.{ltb-true, ltb-false, lt-ltb}
+use Rattle.std.specs.Prelude.{None}
 use Rattle.texts.specs.declared.place.Span.{Span}
 use Rattle.report.specs.declared.reader.Lines.{Lines}
-use Rattle.report.specs.Lines.{has_line, behind_line, lines_from, lines, AreLines}
-use Rattle.report.specs.Reader.{reader_at, next, behind, HandsOut, ends, goes_on}
-use Rattle.report.proofs.LineList.{lines_none, lines_more, lines_cons}
+use Rattle.texts.specs.Parts.{bytes_in}
+use Rattle.report.specs.Lines.{has_line, next_line, line_at, behind_line, lines_from, lines, AreLines}
+use Rattle.report.specs.Reader.{reader_at, has_next, next, behind, HandsOn, HandsOut, ends, goes_on}
+use Rattle.report.proofs.LineList.{lines_none, lines_more, lines_cons, its_end}
 use Rattle.report.proofs.WholeLines.{lines_are}
+
+-- the reader moved past a line that is had by its bytes
+pub stands_behind : (text line : List ℕ) (at : ℕ) → line ≡ bytes_in text (line_at text at) → {next : ℕ} → next ≡ next_line text (at + length line) → next ≡ behind_line text at
+stands_behind text line at e n = n ∙ ap (next_line text) (its_end text line at e)
+
+pub fewer_left : (text : List ℕ) (at : ℕ) → at < length text → {next : ℕ} → next ≡ behind_line text at → length (lines_from text next) < length (lines_from text at)
+fewer_left text at h n = rw (n, lines_more text at h) (omega arith)
+
+-- a reader of the text that stands at a place, and what it hands out there
+pub record StandsAt (text : List ℕ) (at : ℕ) (reader : Lines) : Type 0 where
+  pub same : reader.text.now ≡ text
+  pub here : reader.at ≡ at
+
+pub record Handed (text : List ℕ) (at : ℕ) (line : List ℕ) (after : Lines) : Type 0 where
+  pub here : at < length text
+  pub bytes : line ≡ bytes_in text (line_at text at)
+  pub on : StandsAt text (behind_line text at) after
+
+module _ {text : List ℕ} {at : ℕ} {before : Lines} (s : StandsAt text at before) where
+  pub handed : {line : List ℕ} {after : Lines} → (has_next before ≡ true) × (line ≡ bytes_in before.text.now (next before)) × (after ≡ behind before) → Handed text at line after
+  handed h =
+      let place = λ (t : List ℕ) (i : ℕ). bytes_in t (line_at t i) in
+      record {
+        here = ltb-true _ _ (ap₂ has_line (sym s.same) (sym s.here) ∙ h.0);
+        bytes = h.1 ∙ ap₂ place s.same s.here;
+        on = record { same = ap (λ (r : Lines). r.text.now) h.2 ∙ s.same; here = ap (λ (r : Lines). r.at) h.2 ∙ ap₂ behind_line s.same s.here };
+      }
+
+  pub none_handed : {after : Lines} → HandsOn before None after → length text ≤ at
+  none_handed h = ltb-false _ _ (ap₂ has_line (sym s.same) (sym s.here) ∙ h.0)
 
 no_line : (text : List ℕ) (at : ℕ) → lines_from text at ≡ [] → has_line text at ≡ false
 no_line text at e = go (has_line text at) refl

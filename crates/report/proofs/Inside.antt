@@ -7,8 +7,11 @@ use mathlib.Core.Bool.{Bool, true, false}
 use mathlib.Core.List.{List, [], ◌∷◌}
 use lib.Dec.{ltb}
 use lib.ListN.{length, drop}
+use Rattle.std.specs.Prelude.{Result, Ok, Err}
 use Rattle.texts.specs.declared.place.Place.{Place}
 use Rattle.texts.specs.declared.place.Span.{Span}
+use Rattle.texts.specs.declared.refusal.Refused.{Refused}
+use Rattle.texts.specs.declared.refusal.Refusal.TheVariants.{Misplaced}
 use Rattle.texts.specs.Prefix.{in_line, prefix_len}
 use Rattle.texts.specs.Place.{place_from, text_start, Stands}
 use Rattle.texts.proofs.Counting.{start_stands, from_stands}
@@ -20,14 +23,22 @@ use Rattle.report.specs.Report.{refused, found, beginning, reported, Reported, m
 use Rattle.report.proofs.LineList.{Among, lines_behind, next_inside}
 use Rattle.report.proofs.Reporting.{beginning_from}
 
-pub record Inside (text : List ℕ) (r : Report) : Type 0 where
-  pub place : r.place.start + r.place.len ≤ length text
+pub record ReportInside (text : List ℕ) (r : Report) : Type 0 where
   pub facts : r.facts.start + r.facts.len ≤ r.next.start
   pub next : r.next.start ≤ length text
-  pub place_stands : Stands text r.place
   pub facts_stands : Stands text r.facts
   pub next_stands : Stands text r.next
   pub one_line : r.facts.len ≤ prefix_len in_line (drop r.facts.start text)
+
+-- a refusal is 2
+pub record RefusedInside (text : List ℕ) (e : Refused) : Type 0 where
+  pub misplaced : e.refusal ≡ Misplaced
+  pub place : e.place.start + e.place.len ≤ length text
+  pub place_stands : Stands text e.place
+
+abbrev pub Inside : List ℕ → Result Report Refused → Type 0
+Inside text (Ok r) = ReportInside text r
+Inside text (Err e) = RefusedInside text e
 
 end_next : (text : List ℕ) (end : ℕ) → end ≤ length text → end ≤ next_line text end
 unfolding next_line
@@ -38,16 +49,13 @@ end_next text end h = go (ltb end (length text)) refl
     go false e = rw e h
 
 module _ (text : List ℕ) where
-  -- a refusal names no other place
   refused_inside : (p : Place) → Stands text p → p.start + p.len ≤ length text → Inside text (refused p)
-  refused_inside p s h =
-      let at_start = start_stands text in
-      record { place = h; facts = omega arith; next = omega arith; place_stands = s; facts_stands = at_start; next_stands = at_start; one_line = omega arith }
+  refused_inside p s h = record { misplaced = refl; place = h; place_stands = s }
 
   -- by the facts line, and by where the lines behind it begin
   found_inside : (word : Word) (facts : Place) (next : ℕ) → Stands text facts → facts.start + facts.len ≤ next → next ≤ length text → facts.len ≤ prefix_len in_line (drop facts.start text) → Inside text (found word facts (place_from text next 0))
   found_inside word facts next s h i l =
-      record { place = omega arith; facts = h; next = i; place_stands = start_stands text; facts_stands = s; next_stands = from_stands text next 0 i; one_line = l }
+      record { facts = h; next = i; facts_stands = s; next_stands = from_stands text next 0 i; one_line = l }
 
   -- where the lines behind a line begin
   record Begins (l : Span) (behind : List Span) : Type 0 where
@@ -73,7 +81,7 @@ module _ (text : List ℕ) where
   said_inside Inconsistent at l behind a = claim_inside Inconsistent l behind (begins at l behind a)
   said_inside Unknown at l behind a = claim_inside Unknown l behind (begins at l behind a)
 
-  pub reported_inside : {r : Report} → Reported text r → Inside text r
+  pub reported_inside : {r : Result Report Refused} → Reported text r → Inside text r
   reported_inside (missing i) = refused_inside (end_of text) (from_stands text (length text) 0 (omega arith)) (omega arith)
   reported_inside (stray l behind f n) =
       let a = lines_behind text 0 f.before l behind f.split in

@@ -1,12 +1,12 @@
 -- Laws of `lines_from`: it unrolls line by line, and a line may be had by its bytes.
-use Prim.Native.Nat.{ℕ, zero, suc, ◌+◌, ◌-◌, ◌≤◌, ◌<◌}
+use Prim.Native.Nat.{ℕ, suc, ◌+◌, ◌-◌, ◌≤◌, ◌<◌}
 use native.Mathlib.Nat.{add-zero, min-eq_left}
 use native.Mathlib.Omega.{arith}
 use mathlib.Core.Path.{◌≡◌, refl, sym, ap, ◌∙◌}
 use mathlib.Core.Bool.{Bool, true, false}
 use mathlib.Core.List.{List, [], ◌∷◌, ◌++◌, nil≢cons}
 use lib.Dec.{eqb, ltb}
-use lib.ListN.{length, take, drop, length-take, length-drop, drop_of_length-le}
+use lib.ListN.{length, drop, length-take, length-drop, drop_of_length-le}
 use lib.Seq.{drop-drop}
 use borrow.Author.Tests.{ltb-true, ltb-false}
 use Rattle.texts.specs.declared.place.Span.{Span}
@@ -64,16 +64,9 @@ first_line : (at b : ℕ) (rest : List ℕ) → lines_at at (b ∷ rest) ≡ unr
 first_line at b [] = by_first_byte at b [] (longer_none at)
 first_line at b (c ∷ more) = by_first_byte at b (c ∷ more) (longer_more at c more (first_line (suc at) c more))
 
-take_nil : (n : ℕ) → take {A = ℕ} n [] ≡ []
-take_nil zero = refl
-take_nil (suc n) = refl
-
 module _ (text : List ℕ) (at : ℕ) where
   pub lines_none : length text ≤ at → lines_from text at ≡ []
   lines_none h = rw (drop_of_length-le text h) (lines_nil at)
-
-  pub line_none : length text ≤ at → bytes_in text (line_at text at) ≡ []
-  line_none h = ap (take (line_at text at).len) (drop_of_length-le text h) ∙ take_nil (line_at text at).len
 
   pub end_inside : at < length text → line_end text at ≤ length text
   end_inside h = let p = prefix_inside in_line (drop at text) in omega (arith, length-drop at text)

@@ -1,11 +1,9 @@
 -- Laws of `OutOfPlace`: what a loop over the lines does in a turn, where it stops, and at the end.
 use Prim.Native.Nat.{ℕ, ◌+◌, ◌≤◌, ◌<◌}
-use native.Mathlib.Omega.{arith}
-use mathlib.Core.Path.{◌≡◌, refl, ap, ◌∙◌}
+use mathlib.Core.Path.{◌≡◌, ap, ◌∙◌}
 use mathlib.Core.Bool.{true, false}
 use mathlib.Core.List.{List, [], ◌∷◌}
-use lib.Dec.{eqb}
-use lib.ListN.{length, get_or}
+use lib.ListN.{length}
 use Rattle.texts.specs.declared.place.Place.{Place}
 use Rattle.texts.specs.declared.place.Span.{Span}
 use Rattle.texts.specs.Parts.{bytes_in}
@@ -18,14 +16,6 @@ use Rattle.report.specs.Lines.{lines_from, next_line, line_at}
 use Rattle.report.specs.Around.{is_idle, OutOfPlace, none, some}
 use Rattle.report.proofs.LineList.{lines_none, its_bytes, lines_its}
 use Rattle.report.proofs.Located.{at_end}
-
-pub idle_empty : (line : List ℕ) → length line ≡ 0 → true ≡ is_idle line
-idle_empty [] h = refl
-idle_empty (b ∷ rest) h = absurd (let z : ⊥ = omega arith in z)
-
-pub idle_first : (line : List ℕ) → (length line ≡ 0 → ⊥) → eqb (get_or line 0 0) 37 ≡ is_idle line
-idle_first [] h = absurd (h refl)
-idle_first (b ∷ rest) h = refl
 
 module _ (text : List ℕ) (at : Place) (s : Stands text at) where
   pub none_left : length text ≤ at.start → OutOfPlace text at.start (End (with_len at 0))

@@ -7,8 +7,10 @@ use lib.Dec.{ltb}
 use lib.ListN.{length}
 use borrow.Author.Tests.{ltb-true, ltb-false}
 use native.Mathlib.Omega.{arith}
+use Rattle.std.specs.Prelude.{Result}
 use Rattle.texts.specs.declared.place.Place.{Place}
 use Rattle.texts.specs.declared.place.Span.{Span}
+use Rattle.texts.specs.declared.refusal.Refused.{Refused}
 use Rattle.texts.specs.Parts.{bytes_in, part}
 use Rattle.texts.specs.Place.{place_from, text_start, Stands, with_len}
 use Rattle.texts.specs.Places.{span_from}
@@ -70,8 +72,8 @@ first_line text at (some line behind f) l e =
       first = subst (λ (ls : List Span). FirstOther text (lines_from text at) line ls) b.rest f;
     })
 
-pub report_missing : (text : List ℕ) {f : Found} → OutOfPlace text 0 f → (end : Place) → f ≡ End end → (r : Report) → r ≡ refused end → Reported text r
-report_missing text o end e r q = let n = none_first text 0 o end e in rw (q, n.1) (missing n.0)
+pub report_missing : (text : List ℕ) {end : Place} → OutOfPlace text 0 (End end) → (r : Result Report Refused) → r ≡ refused end → Reported text r
+report_missing text {end} o r q = let n = none_first text 0 o end refl in rw (q, n.1) (missing n.0)
 
 module _ (text : List ℕ) (line : Place) (o : OutOfPlace text 0 (Line line)) where
   pub line_whole : WholeLine text line
@@ -83,7 +85,7 @@ module _ (text : List ℕ) (line : Place) (o : OutOfPlace text 0 (Line line)) wh
   -- by the line's bytes
   module _ (bytes : List ℕ) (b : bytes ≡ part text line) where
     pub report_stray : starts_with (spelling Answer) bytes ≡ false → starts_with (spelling Inconsistent) bytes ≡ false → starts_with (spelling Unknown) bytes ≡ false
-        → (r : Report) → r ≡ refused line → Reported text r
+        → (r : Result Report Refused) → r ≡ refused line → Reported text r
     report_stray a i u r q = rw (q, as_from text line line_whole.stands line.len) (stray (span_from line.start line.len) _ first none_of)
       where
         not_said : (word : Word) → starts_with (spelling word) bytes ≡ false → Says text (span_from line.start line.len) word → ⊥
@@ -95,10 +97,10 @@ module _ (text : List ℕ) (line : Place) (o : OutOfPlace text 0 (Line line)) wh
         none_of Unknown s = not_said Unknown u s
 
     module _ (next : Place) (n : next ≡ place_from text (next_line text (line.start + line.len)) 0) (word : Word) (s : starts_with (spelling word) bytes ≡ true) where
-      pub report_says : (r : Report) → r ≡ reported text word (lines_from text next.start) → Reported text r
+      pub report_says : (r : Result Report Refused) → r ≡ reported text word (lines_from text next.start) → Reported text r
       report_says r q = rw (q, n) (says (span_from line.start line.len) _ first word (ap (starts_with (spelling word)) (sym b) ∙ s))
 
-      pub report_claims : ((ls : List Span) → reported text word ls ≡ found word text_start (place_from text (beginning text ls) 0)) → (r : Report) → r ≡ found word text_start next → Reported text r
+      pub report_claims : ((ls : List Span) → reported text word ls ≡ found word text_start (place_from text (beginning text ls) 0)) → (r : Result Report Refused) → r ≡ found word text_start next → Reported text r
       report_claims claim r q =
           let at = next_line text (line.start + line.len) in
           let start : next.start ≡ at = ap (λ (p : Place). p.start) n in

@@ -7,7 +7,9 @@ use lib.Dec.{eqb}
 use lib.ListN.{get_or}
 use borrow.Author.Tests.{eqb-true}
 use Rattle.meaning.proofs.Booleans.{both}
+use Rattle.std.specs.Prelude.{Result}
 use Rattle.texts.specs.declared.place.Span.{Span}
+use Rattle.texts.specs.declared.refusal.Refused.{Refused}
 use Rattle.texts.specs.Parts.{bytes_in}
 use Rattle.report.specs.declared.word.Word.{Word}
 use Rattle.report.specs.declared.word.Word.TheVariants.{Answer, Inconsistent, Unknown}
@@ -73,7 +75,7 @@ module _ (text : List ℕ) where
   said : {l m : Span} (w : Word) → l ≡ m → Says text l w → Says text m w
   said w e s = subst (λ (x : Span). Says text x w) e s
 
-  pub reported_unique : {r q : Report} → Reported text r → Reported text q → r ≡ q
+  pub reported_unique : {r q : Result Report Refused} → Reported text r → Reported text q → r ≡ q
   reported_unique (missing i) (missing j) = refl
   reported_unique (missing i) (stray m ms g y) = first_not_idle text g i
   reported_unique (missing i) (says m ms g w t) = first_not_idle text g i

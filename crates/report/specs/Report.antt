@@ -1,7 +1,9 @@
 -- The report of an output: which line it is, where its facts stand, and what is refused.
-use Rattle.std.specs.Prelude.{ℕ, ◌≡◌, true, List, [], ◌∷◌, length}
+use Rattle.std.specs.Prelude.{ℕ, ◌≡◌, true, List, [], ◌∷◌, length, Result, Ok, Err}
 use Rattle.texts.specs.declared.place.Place.{Place}
 use Rattle.texts.specs.declared.place.Span.{Span}
+use Rattle.texts.specs.declared.refusal.Refused.{Refused}
+use Rattle.texts.specs.declared.refusal.Refusal.TheVariants.{Misplaced}
 use Rattle.texts.specs.Parts.{bytes_in}
 use Rattle.texts.specs.Place.{place_from, text_start}
 use Rattle.report.specs.declared.word.Word.{Word}
@@ -11,13 +13,13 @@ use Rattle.report.specs.Lines.{lines, located, end_of}
 use Rattle.report.specs.Around.{AllIdle, FirstOther}
 use Rattle.report.specs.Word.{spelling, starts_with}
 
--- ---- the two sorts of answers; where an answer does not name them, a place is empty at the text's start, and the word is the one that claims nothing
+-- ---- the two sorts of answers; where a report has no line of facts, that place is empty at the text's start
 
-abbrev pub refused : Place → Report
-refused place = record { code = 2; place = place; word = Unknown; facts = text_start; next = text_start }
+abbrev pub refused : Place → Result Report Refused
+refused place = Err (record { refusal = Misplaced; place = place })
 
-abbrev pub found : Word → Place → Place → Report
-found word facts next = record { code = 0; place = text_start; word = word; facts = facts; next = next }
+abbrev pub found : Word → Place → Place → Result Report Refused
+found word facts next = Ok (record { word = word; facts = facts; next = next })
 
 -- ---- what is reported
 
@@ -31,14 +33,14 @@ beginning text [] = length text
 beginning text (l ∷ ls) = l.start
 
 -- by the word and the lines behind it: after ANSWER the next line, whatever it is, holds the facts, and must be there
-abbrev pub reported : List ℕ → Word → List Span → Report
+abbrev pub reported : List ℕ → Word → List Span → Result Report Refused
 reported text Answer [] = refused (end_of text)
 reported text Answer (facts ∷ behind) = found Answer (located text facts) (place_from text (beginning text behind) 0)
 reported text Inconsistent behind = found Inconsistent text_start (place_from text (beginning text behind) 0)
 reported text Unknown behind = found Unknown text_start (place_from text (beginning text behind) 0)
 
 -- the answer for an output: by the first line that is neither empty nor starts with `%`
-pub data Reported (text : List ℕ) : Report → Type 0 where
+pub data Reported (text : List ℕ) : Result Report Refused → Type 0 where
   -- there is none: the report is missing
   missing : AllIdle text (lines text) → Reported text (refused (end_of text))
   -- it is no report: it is out of place

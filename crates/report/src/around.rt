@@ -3,11 +3,12 @@ ghost use Rattle.std.specs.Prelude.{◌≡◌};
 ghost use Rattle.texts.specs.Place.{Stands};
 ghost use Rattle.report.specs.Around.{is_idle, OutOfPlace};
 
-use crate::line::{has_line, line_behind};
-use crate::reader::line_from;
+use crate::line::line_behind;
+use crate::reader::Lines;
 use texts::place::{Place, with_len};
 
 // A line; or none, and the text's end.
+// It stays beside `Option` and `Result`: both places are handed on, and of a line that is found only the caller knows whether it is a fault.
 #[derive(Clone, Copy)]
 pub enum Found {
     End(Place),
@@ -18,10 +19,7 @@ pub enum Found {
 fn is_idle(line: &[u8]) -> bool
     ensures { result ≡ is_idle line.now }
 {
-    if line.len() == 0 {
-        return true;
-    }
-    line[0] == b'%'
+    line.first().is_none_or(|byte| *byte == b'%')
 }
 
 // The first line from `at` on that is neither empty nor starts with `%`. Behind the report such a line is out of place.
@@ -30,8 +28,7 @@ pub fn out_of_place(text: &[u8], at: Place) -> Found
     ensures { OutOfPlace text.now at.start result }
 {
     let mut start = at;
-    while has_line(text, start.start) {
-        let line = line_from(text, start.start);
+    for line in Lines::new(text, at.start) {
         let place = with_len(start, line.len());
         if !is_idle(line) {
             return Found::Line(place);

@@ -2,7 +2,7 @@
 ghost use Rattle.std.specs.Prelude.{◌≡◌, ◌+◌};
 ghost use Rattle.texts.specs.Place.{place_from};
 ghost use Rattle.texts.specs.Parts.{bytes_in};
-ghost use Rattle.report.specs.Lines.{has_line, line_end, next_line, line_at, behind_line, WholeLine};
+ghost use Rattle.report.specs.Lines.{has_line, line_end, next_line, line_at, WholeLine};
 
 use lexis::run::{Run, run_end};
 use texts::place::{Place, behind, past};
@@ -22,6 +22,7 @@ pub fn line_end(text: &[u8], at: usize) -> usize
 }
 
 // Where the line behind the one that ends at `end` begins: behind its newline, or at the text's end where it has none.
+#[tactic(auto, unfolding(crate::specs::Lines::next_line))]
 pub fn next_line(text: &[u8], end: usize) -> usize
     ensures { result ≡ next_line text.now end }
 {
@@ -54,11 +55,4 @@ pub fn line_at(text: &[u8], at: usize) -> &[u8]
     }
     let end = line_end(text, at);
     &text[at..end]
-}
-
-// Where the line behind the one that starts at `at` begins.
-pub fn behind_line(text: &[u8], at: usize) -> usize
-    ensures { result ≡ behind_line text.now at }
-{
-    next_line(text, line_end(text, at))
 }

@@ -12,7 +12,7 @@ use Rattle.codes.specs.Predicates.{CodedName}
 use Rattle.codes.specs.Related.{Pairwise, end, pair, RelatedTerm, RelatedAtom, both_plain, RelatedLiteral, both_builtin, RelatedRule}
 use Rattle.codes.proofs.Pairwise.{pairwise_more}
 use Rattle.codes.proofs.Names.{coded_name_more, coded_fact_more, coded_rule_more}
-use Rattle.names.specs.declared.Found.TheVariants.{At}
+use Rattle.std.specs.Prelude.{Some}
 use Rattle.names.specs.Table.{names_of, Table}
 use Rattle.names.specs.Numbering.{Interns}
 use Rattle.names.proofs.Numbered.{behind, grown_list, grown_length}
@@ -30,7 +30,7 @@ module _ (program output : Bytes) where
   pub grows_none : (names : List ℕ) (n : ℕ) → Table program output names → Grows program output names n names
   grows_none names n t = record { in_order = t; more = []; behind = sym (append-nil _); few = omega arith; long = refl }
 
-  pub grows_interned : (names : List ℕ) (name : Bytes) (names' : List ℕ) (i : ℕ) → Interns program output names name names' (At i) → Grows program output names 1 names'
+  pub grows_interned : (names : List ℕ) (name : Bytes) (names' : List ℕ) (i : ℕ) → Interns program output names name names' (Some i) → Grows program output names 1 names'
   grows_interned names name names' i h =
       let e = grown_list _ name _ i h.1 in
       record {

@@ -14,8 +14,7 @@ use Rattle.texts.specs.Parts.{part}
 use Rattle.texts.specs.Places.{span_from}
 use Rattle.meaning.specs.Rules.{Bytes}
 use Rattle.names.specs.Texts.{bytes_at}
-use Rattle.names.specs.declared.Found.{Found}
-use Rattle.names.specs.declared.Found.TheVariants.{At, Nothing}
+use Rattle.std.specs.Prelude.{Option, IsSome}
 use Rattle.names.specs.Table.{capacity, names_of, Table}
 use Rattle.names.specs.Numbering.{Interns}
 use Rattle.names.proofs.Standing.{starts_inside, no_longer}
@@ -89,14 +88,8 @@ module _ (program output text : Bytes) (base : ℕ) (place : Place) (source : So
       omega arith
 
 -- a name is not turned away where there is room
-module _ (program output : Bytes) (names : List ℕ) (name : Bytes) (some : name ≡ [] → ⊥) (names' : List ℕ) (f : Found) (h : Interns program output names name names' f) where
-  pub turned_away : Room program output names 1 → f ≡ Nothing → ⊥
-  turned_away r e =
+module _ (program output : Bytes) (names : List ℕ) (name : Bytes) (some : name ≡ [] → ⊥) (names' : List ℕ) (f : Option ℕ) (h : Interns program output names name names' f) where
+  pub taken_in : Room program output names 1 → IsSome f
+  taken_in r =
       let room : length (names_of program output names) < capacity (length names) = let k = r.room in omega arith in
-      let i = numbered program output names name names' f h some room in
-      let q = i.1 in
-      let z : ◌≡◌ {A = ℕ} 0 1 = cc in
-      omega arith
-
-  pub interned_at : (i : ℕ) → f ≡ At i → Interns program output names name names' (At i)
-  interned_at i e = rw e at h
+      rw (numbered program output names name names' f h some room).1

@@ -13,7 +13,7 @@ use Rattle.codes.specs.Related.{both_constant, both_variable}
 use Rattle.codes.proofs.Numbers.{range_up, range_down, number_least, code_is_number}
 use Rattle.tables.specs.Rows.{term_of}
 use Rattle.syntax.specs.Terms.{signed}
-use Rattle.names.specs.declared.Found.TheVariants.{At}
+use Rattle.std.specs.Prelude.{Some}
 use Rattle.names.specs.Numbering.{Interns}
 use Rattle.names.proofs.Numbered.{interned_name, interned_string}
 use Rattle.rows.specs.Coding.{CodedTerm, Codes}
@@ -55,7 +55,7 @@ module _ (names : List Bytes) where
   coded_variable_term x h = record { related = rw (lt-ltb x 16 h) (both_variable x); valued = λ q. omega arith }
 
 -- a name, or a string as its text without the closing quote, that is interned
-module _ (program output : Bytes) (names : List ℕ) (b : Bytes) (names' : List ℕ) (i : ℕ) (h : Interns program output names b names' (At i)) where
+module _ (program output : Bytes) (names : List ℕ) (b : Bytes) (names' : List ℕ) (i : ℕ) (h : Interns program output names b names' (Some i)) where
   pub name_coded : Codes program output names 1 (λ ns. CodedTerm ns (first_name + i) (constant (name b))) names'
   name_coded = record { grows = grows_interned program output names b names' i h; coded = coded_constant _ (interned_name program output names b names' i h) (omega arith) }
 

@@ -16,6 +16,7 @@ pub struct AtomCodes {
 }
 
 // The number of a comparison, by its sign's kind.
+#[tactic(auto, unfolding(codes::specs::Arithmetic::comparison_at, syntax::specs::Builtins::comparison_of))]
 pub fn comparison_code(kind: u8) -> u64
     ensures { comparison_at result ≡ comparison_of kind }
 {
@@ -41,6 +42,7 @@ pub fn comparison_code(kind: u8) -> u64
 }
 
 // The number of an operation, by its mark's kind.
+#[tactic(auto, unfolding(codes::specs::Arithmetic::operation_at, syntax::specs::Builtins::operation_of))]
 pub fn operation_code(kind: u8) -> u64
     ensures { (operation_at result ≡ operation_of kind) × (result < no_operation) }
 {

@@ -1,5 +1,5 @@
 // Terms to numbers: a number is its code, a name the code of its place in the table of names.
-ghost use Rattle.std.specs.Prelude.{◌≡◌, true, []};
+ghost use Rattle.std.specs.Prelude.{◌≡◌, true, [], Some};
 ghost use Rattle.texts.specs.Parts.{part};
 ghost use Rattle.meaning.specs.Values.{number, in_range};
 ghost use Rattle.codes.specs.Codes.{number_code};
@@ -8,7 +8,7 @@ ghost use Rattle.syntax.specs.Terms.{signed};
 ghost use Rattle.rows.specs.Growth.{Room, Source};
 
 use codes::FIRST_NUMBER;
-use names::{Found, intern};
+use names::intern;
 use texts::parts::part;
 use texts::place::Place;
 
@@ -25,14 +25,10 @@ pub fn name_number<'a>(
     place: Place,
 ) -> usize
     requires { (Room program.now output.now names.old 1 × Source program.now output.now text.now base) × (part text.now place ≡ [] → ⊥) }
-    ensures { Interns program.now output.now names.old (part text.now place) names.new (Found.At result) }
+    ensures { Interns program.now output.now names.old (part text.now place) names.new (Some result) }
 {
     let name = part(text, place);
-    let found = intern(program, output, names, name, base + place.start);
-    let Found::At(number) = found else {
-        return 0;
-    };
-    number
+    intern(program, output, names, name, base + place.start).unwrap()
 }
 
 // The code of a number, behind a minus or not.

@@ -48,10 +48,8 @@ pub fn rule_place(text: &[u8], k: usize) -> Place
     ensures { result ≡ sentence false text.now k }
 {
     let mut at = TEXT_START;
-    let mut n = 0;
-    while n < k {
+    for _ in 0..k {
         at = dot_end(text, at);
-        n += 1;
     }
     to_dot(text, at)
 }

@@ -2,12 +2,12 @@
 use mathlib.Core.Path.{◌≡◌, refl, sym, ◌∙◌}
 use mathlib.Core.Bool.{Bool, true, false, cond, ◌||◌, or-false}
 use mathlib.Core.List.{List, [], ◌∷◌, ◌++◌, map, map-append}
-use Prim.Native.Nat.{ℕ, ◌+◌, ◌*◌, ◌≤◌, ◌<◌}
+use Prim.Native.Nat.{ℕ, suc, ◌+◌, ◌-◌, ◌*◌, ◌≤◌, ◌<◌}
 use native.Mathlib.Omega.{arith}
 use native.Mathlib.Numerals.{add-one}
 use lib.Dec.{eqb, ltb}
-use lib.ListN.{length, get_or, set, take, drop, length-set, length-drop, get_or-replicate, get_or-eq_default}
-use lib.Seq.{take-suc, get_or-drop, get_or-set_same, get_or-set_other}
+use lib.ListN.{length, get_or, set, take, drop, length-set, get_or-replicate, get_or-eq_default}
+use lib.Seq.{take-suc, get_or-set_same, get_or-set_other}
 use borrow.Author.Tests.{lt-ltb, le-ltb, eq-eqb, ne_eqb, eqb-true, eqb-false, ltb-true, ltb-false}
 use Rattle.meaning.specs.Sets.{any}
 use Rattle.meaning.specs.Rules.{Literal, positive, negated, builtin}
@@ -65,11 +65,10 @@ variable_adds b c v room h e = let a = with_variable_adds b v room h in rw (lt-l
 
 -- ---- terms of a row
 
-pub terms_on : (literals : List ℕ) (at count i : ℕ) (b c d : Bound) → at + count ≤ length literals → i < count → Adds b c (λ x. any (in_term x) (map term_of (take i (drop at literals)))) → Adds c d (λ x. in_term x (term_of (get_or literals (at + i) 0))) → Adds b d (λ x. any (in_term x) (map term_of (take (i + 1) (drop at literals))))
-terms_on literals at count i b c d long h p q =
-    let inside : i < length (drop at literals) = rw length-drop (omega arith) in
-    let longer : map term_of (take (i + 1) (drop at literals)) ≡ map term_of (take i (drop at literals)) ++ (term_of (get_or literals (at + i) 0) ∷ []) = rw (add-one i, take-suc (drop at literals) i 0 inside, get_or-drop at literals i 0) (map-append term_of (take i (drop at literals)) (get_or literals (at + i) 0 ∷ [])) in
-    rw longer (adds_on in_term (map term_of (take i (drop at literals))) (term_of (get_or literals (at + i) 0)) b c d p q)
+pub terms_on : (terms : List ℕ) (i : ℕ) (b c d : Bound) → i < length terms → Adds b c (λ x. any (in_term x) (map term_of (take i terms))) → Adds c d (λ x. in_term x (term_of (get_or terms i 0))) → Adds b d (λ x. any (in_term x) (map term_of (take (i + 1) terms)))
+terms_on terms i b c d inside p q =
+    let longer : map term_of (take (i + 1) terms) ≡ map term_of (take i terms) ++ (term_of (get_or terms i 0) ∷ []) = rw (add-one i, take-suc terms i 0 inside) (map-append term_of (take i terms) (get_or terms i 0 ∷ [])) in
+    rw longer (adds_on in_term (map term_of (take i terms)) (term_of (get_or terms i 0)) b c d p q)
 
 -- ---- a literal
 
@@ -99,8 +98,11 @@ one_by_one (positive a ∷ ls) x = rw (or-false (in_atom x a), one_by_one ls x)
 one_by_one (negated a ∷ ls) x = one_by_one ls x
 one_by_one (builtin c t e ∷ ls) x = one_by_one ls x
 
-pub body_on : (literals : List ℕ) (first i : ℕ) (b c d : Bound) → Adds b c (in_some (from (literal_at literals) i first)) → Adds c d (in_literal (literal_at literals (first + i))) → Adds b d (in_some (from (literal_at literals) (i + 1) first))
-body_on literals first i b c d p q = rw (add-one i, from_last (literal_at literals) i first) (adds_on (λ x l. in_literal l x) (from (literal_at literals) i first) (literal_at literals (first + i)) b c d p q)
+pub body_on : (literals : List ℕ) (first l : ℕ) (b c d : Bound) → first ≤ l → Adds b c (in_some (from (literal_at literals) (l - first) first)) → Adds c d (in_literal (literal_at literals l)) → Adds b d (in_some (from (literal_at literals) (l + 1 - first) first))
+body_on literals first l b c d low p q =
+    let longer : l + 1 - first ≡ suc (l - first) = omega arith in
+    let here : first + (l - first) ≡ l = omega arith in
+    rw (longer, from_last (literal_at literals) (l - first) first, here) (adds_on (λ x m. in_literal m x) (from (literal_at literals) (l - first) first) (literal_at literals l) b c d p q)
 
 pub body_whole : (ls : List (Literal ℕ)) (b c : Bound) → Adds b c (in_some ls) → Adds b c (in_positives ls)
 body_whole ls b c a = record { room = a.room; bits = λ x. a.bits x ∙ rw (one_by_one ls x) }

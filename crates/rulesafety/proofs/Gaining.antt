@@ -3,10 +3,14 @@ use mathlib.Core.Path.{◌≡◌, refl, sym, ◌∙◌}
 use mathlib.Core.Bool.{Bool, true, false, not, cond, ◌&&◌, true≢false}
 use mathlib.Core.Option.{none, some}
 use mathlib.Core.List.{List}
-use Prim.Native.Nat.{ℕ, zero, suc, ◌+◌, ◌-◌, ◌≤◌, ◌<◌}
+use Prim.Native.Nat.{ℕ, zero, suc, ◌+◌, ◌≤◌, ◌<◌}
 use native.Mathlib.Omega.{arith}
+use native.Mathlib.Numerals.{add-one}
 use lib.Dec.{eqb, ltb}
 use borrow.Author.Tests.{lt-ltb, le-ltb, eq-eqb, ne_eqb, eqb-true, eqb-false, ltb-true, ltb-false}
+use Rattle.std.specs.Prelude.{Option, Some, None, IfSome, find}
+use Rattle.std.specs.List.{range_with_len}
+use Rattle.std.proofs.lemmas.Option.{none-some, same_Some}
 use Rattle.meaning.specs.Domain.{unequal, less, at_most, greater, at_least}
 use Rattle.meaning.specs.Rules.{Term, Side, plain, computed, builtin}
 use Rattle.meaning.specs.Safety.{term_bound, side_bound, when, else, gain_left, gain, next_gain}
@@ -77,57 +81,40 @@ module _ (B : ℕ → Bool) where
 
     -- ---- the first that gains, of n from k on
 
-    pub none_gains : (n k : ℕ) → n ≤ first_gain (gains B literals) n k → next_gain B (from (literal_at literals) n k) ≡ none
+    pub none_gains : (n k : ℕ) → first_gain (gains B literals) n k ≡ None → next_gain B (from (literal_at literals) n k) ≡ none
     unfolding next_gain first_gain else when from
     none_gains zero k h = refl
     none_gains (suc n) k h = go (gains B literals k) refl h (none_gains n (suc k))
       where
-        go : (t : Bool) → gains B literals k ≡ t → suc n ≤ first_gain (gains B literals) (suc n) k → (n ≤ first_gain (gains B literals) n (suc k) → next_gain B (from (literal_at literals) n (suc k)) ≡ none) → next_gain B (from (literal_at literals) (suc n) k) ≡ none
-        go true e g rec = let z : suc n ≤ 0 = rw e at g in absurd (let y : ⊥ = omega arith in y)
-        go false e g rec = let z : suc n ≤ suc (first_gain (gains B literals) n (suc k)) = rw e at g in rw (gain_is k, e) (rec (omega arith))
+        go : (t : Bool) → gains B literals k ≡ t → first_gain (gains B literals) (suc n) k ≡ None → (first_gain (gains B literals) n (suc k) ≡ None → next_gain B (from (literal_at literals) n (suc k)) ≡ none) → next_gain B (from (literal_at literals) (suc n) k) ≡ none
+        go true e g rec = absurd (none-some k (sym (rw e at g)))
+        go false e g rec = rw (gain_is k, e) (rec (rw e at g))
 
     -- the row l gains, and no row before it
     pub record Gains (n k l : ℕ) : Type 0 where
+      pub inside : (k ≤ l) × (l < k + n)
       pub next : next_gain B (from (literal_at literals) n k) ≡ some (equation_at literals l)
       pub here : gains B literals l ≡ true
 
-    pub one_gains : (n k : ℕ) → first_gain (gains B literals) n k < n → Gains n k (k + first_gain (gains B literals) n k)
+    pub one_gains : (n k l : ℕ) → first_gain (gains B literals) n k ≡ Some l → Gains n k l
     unfolding next_gain first_gain else when from
-    one_gains zero k h = absurd (let y : ⊥ = omega arith in y)
-    one_gains (suc n) k h = go (gains B literals k) refl h (one_gains n (suc k))
+    one_gains zero k l h = absurd (none-some l h)
+    one_gains (suc n) k l h = go (gains B literals k) refl h (one_gains n (suc k) l)
       where
-        go : (t : Bool) → gains B literals k ≡ t → first_gain (gains B literals) (suc n) k < suc n → (first_gain (gains B literals) n (suc k) < n → Gains n (suc k) (suc k + first_gain (gains B literals) n (suc k))) → Gains (suc n) k (k + first_gain (gains B literals) (suc n) k)
-        go true e g rec = let z : k + 0 ≡ k = omega arith in rw (e, z) (record { next = rw (gain_is k, e); here = e })
-        go false e g rec =
-            let s : suc (first_gain (gains B literals) n (suc k)) < suc n = rw e at g in
-            let z : k + suc (first_gain (gains B literals) n (suc k)) ≡ suc k + first_gain (gains B literals) n (suc k) = omega arith in
-            let r = rec (omega arith) in
-            rw (e, z) (record { next = rw (gain_is k, e) r.next; here = r.here })
+        go : (t : Bool) → gains B literals k ≡ t → first_gain (gains B literals) (suc n) k ≡ Some l → (first_gain (gains B literals) n (suc k) ≡ Some l → Gains n (suc k) l) → Gains (suc n) k l
+        go true e g rec = let same = same_Some k l (rw e at g) in rw (← same) (record { inside = (omega arith, omega arith); next = rw (gain_is k, e); here = e })
+        go false e g rec = let r = rec (rw e at g) in record { inside = (omega (arith, r.inside.0), omega (arith, r.inside.1)); next = rw (gain_is k, e) r.next; here = r.here }
 
--- ---- as a loop finds it
+    pub gain_inside : (n k : ℕ) (r : Option ℕ) → r ≡ first_gain (gains B literals) n k → IfSome r (λ l. l < k + n)
+    gain_inside n k None e = tt
+    gain_inside n k (Some l) e = (one_gains n k l (sym e)).inside.1
 
-module _ (p : ℕ → Bool) (count first : ℕ) where
-  pub gain_start : first_gain p count first ≡ 0 + first_gain p (count - 0) (first + 0)
-  gain_start =
-      let a : count - 0 ≡ count = omega arith in
-      let b : first + 0 ≡ first = omega arith in
-      rw (a, b) (omega arith)
+-- ---- as the code finds it
 
-  module _ (i : ℕ) where
-    pub gain_end : count ≤ i → i + first_gain p (count - i) (first + i) ≡ i
-    unfolding first_gain
-    gain_end h = let a : count - i ≡ 0 = omega arith in rw a (omega arith)
-
-    pub gain_here : i < count → p (first + i) ≡ true → i + first_gain p (count - i) (first + i) ≡ i
-    unfolding first_gain
-    gain_here h e = let a : count - i ≡ suc (count - (i + 1)) = omega arith in rw (a, e) (omega arith)
-
-    pub gain_later : i < count → p (first + i) ≡ false → i + first_gain p (count - i) (first + i) ≡ (i + 1) + first_gain p (count - (i + 1)) (first + (i + 1))
-    unfolding first_gain
-    gain_later h e =
-        let a : count - i ≡ suc (count - (i + 1)) = omega arith in
-        let b : first + (i + 1) ≡ suc (first + i) = omega arith in
-        rw (a, e, b) (omega arith)
+pub gain_found : (p : ℕ → Bool) (n k : ℕ) → find p (range_with_len k n) ≡ first_gain p n k
+unfolding first_gain
+gain_found p zero k = refl
+gain_found p (suc n) k = rw (add-one k, gain_found p n (suc k))
 
 -- ---- by the tests of the code
 

@@ -9,6 +9,7 @@ use native.Mathlib.Numerals.{add-one}
 use native.Mathlib.Omega.{arith}
 use lib.ListN.{length, set, take, length-set}
 use lib.Seq.{take-suc-set}
+use Rattle.std.specs.Prelude.{Some, None}
 use Rattle.meaning.specs.Sets.{In}
 use Rattle.meaning.specs.Rules.{Literal}
 use Rattle.meaning.specs.Safety.{in_positives, Equation, next_gain, with, scan, equations, bound_after, bound}
@@ -48,10 +49,10 @@ nothing (suc n) B ls e = scan_stop n B ls e
 module _ (literals : List ℕ) (first count : ℕ) where
   pub going_start : (b : Bound) (found : Rows) → Adds no_variables b (in_positives (from (literal_at literals) count first)) → found ≡ no_rows → Going literals first count (record { bound = b; equations = found })
   unfolding bound equations
-  going_start b found a NoneFound =
+  going_start b found a none_found =
       let all : length (from (literal_at literals) count first) ≡ count - 0 = from_length (literal_at literals) count first ∙ omega arith in
       let bits : bits_of b ≡ in_positives (from (literal_at literals) count first) = fun_ext (only_added _ b a) in
-      rw NoneFound (record { room = a.room; rows_room = refl; few = zero-le; ahead = rw (all, bits); binds = λ l m. absurd m; bound_ahead = rw (all, bits) })
+      rw none_found (record { room = a.room; rows_room = refl; few = zero-le; ahead = rw (all, bits); binds = λ l m. absurd m; bound_ahead = rw (all, bits) })
 
   module _ (short : count ≤ most_literals) (s : Scan) (g : Going literals first count s) where
     ended : rest literals first count (bits_of s.bound) s.equations.count ≡ [] → Scanned literals first count s
@@ -69,43 +70,41 @@ module _ (literals : List ℕ) (first count : ℕ) where
     unfolding scan
     going_full h = let none_left : count - s.equations.count ≡ 0 = omega arith in ended (rw none_left)
 
-    module _ (at : ℕ) (e : at ≡ first_gain (gains (bits_of s.bound) literals) count first) where
-      pub going_stop : count ≤ at → Scanned literals first count s
-      going_stop h = ended (nothing (count - s.equations.count) _ _ (none_gains (bits_of s.bound) literals count first (rw (← e) h)))
+    pub going_stop : None ≡ first_gain (gains (bits_of s.bound) literals) count first → Scanned literals first count s
+    going_stop e = ended (nothing (count - s.equations.count) _ _ (none_gains (bits_of s.bound) literals count first (sym e)))
 
-      module _ (inside : at < count) where
-        gain : Gains (bits_of s.bound) literals count first (first + at)
-        gain = rw e (one_gains (bits_of s.bound) literals count first (rw (← e) inside))
+    module _ (l : ℕ) (e : Some l ≡ first_gain (gains (bits_of s.bound) literals) count first) where
+      gain : Gains (bits_of s.bound) literals count first l
+      gain = one_gains (bits_of s.bound) literals count first l (sym e)
 
-        binding : Binds literals first count (first + at)
-        binding = let row = gains_row (bits_of s.bound) literals (first + at) gain.here in record { from_first = omega arith; before_end = omega arith; built_in = row.0; left = row.1 }
+      binding : Binds literals first count l
+      binding = let row = gains_row (bits_of s.bound) literals l gain.here in record { from_first = gain.inside.0; before_end = gain.inside.1; built_in = row.0; left = row.1 }
 
-        pub gain_low : literal_column literals (first + at) terms_column < most_variables
-        gain_low = binding.left
+      pub gain_low : literal_column literals l terms_column < most_variables
+      gain_low = binding.left
 
-        pub going_on : s.equations.count < count → (s' : Scan) → s' ≡ with_equation s (first + at) (literal_column literals (first + at) terms_column) → Going literals first count s'
-        unfolding bound_after with equation_at
-        going_on more s' is =
-            let l = first + at in
-            let x = literal_column literals (first + at) terms_column in
-            let found = s.equations in
-            let adds = with_variable_adds s.bound x g.room gain_low in
-            let bits : bits_of (with_variable s.bound x) ≡ with (bits_of s.bound) x = fun_ext adds.bits in
-            let left : count - found.count ≡ suc (count - (found.count + 1)) = omega arith in
-            let step : rest literals first count (bits_of s.bound) found.count ≡ equation_at literals l ∷ rest literals first count (bits_of (with_variable s.bound x)) (found.count + 1) = rw (left, bits) (scan_step _ _ _ (equation_at literals l) gain.next) in
-            let fits : found.count < length found.rows = let r = g.rows_room in omega arith in
-            let longer : take (found.count + 1) (set found.rows found.count l) ≡ listed found ++ (l ∷ []) = rw add-one (take-suc-set found.rows found.count l fits) in
-            rw is
-            (record {
-              room = adds.room;
-              rows_room = length-set found.rows found.count l ∙ g.rows_room;
-              few = omega arith;
-              ahead = g.ahead ∙ rw (step, longer, map-append, append_assoc);
-              binds = λ k m. each k (in_append k (listed found) (l ∷ []) (rw longer at m));
-              bound_ahead = g.bound_ahead ∙ rw (step, bits);
-            })
-          where
-            each : (k : ℕ) → In k (listed s.equations) ⊎ In k ((first + at) ∷ []) → Binds literals first count k
-            each k (inl old) = g.binds k old
-            each k (inr (inl new)) = rw new binding
-            each k (inr (inr past)) = absurd past
+      pub going_on : s.equations.count < count → (s' : Scan) → s' ≡ with_equation s l (literal_column literals l terms_column) → Going literals first count s'
+      unfolding bound_after with equation_at
+      going_on more s' is =
+          let x = literal_column literals l terms_column in
+          let found = s.equations in
+          let adds = with_variable_adds s.bound x g.room gain_low in
+          let bits : bits_of (with_variable s.bound x) ≡ with (bits_of s.bound) x = fun_ext adds.bits in
+          let left : count - found.count ≡ suc (count - (found.count + 1)) = omega arith in
+          let step : rest literals first count (bits_of s.bound) found.count ≡ equation_at literals l ∷ rest literals first count (bits_of (with_variable s.bound x)) (found.count + 1) = rw (left, bits) (scan_step _ _ _ (equation_at literals l) gain.next) in
+          let fits : found.count < length found.rows = let r = g.rows_room in omega arith in
+          let longer : take (found.count + 1) (set found.rows found.count l) ≡ listed found ++ (l ∷ []) = rw add-one (take-suc-set found.rows found.count l fits) in
+          rw is
+          (record {
+            room = adds.room;
+            rows_room = length-set found.rows found.count l ∙ g.rows_room;
+            few = omega arith;
+            ahead = g.ahead ∙ rw (step, longer, map-append, append_assoc);
+            binds = λ k m. each k (in_append k (listed found) (l ∷ []) (rw longer at m));
+            bound_ahead = g.bound_ahead ∙ rw (step, bits);
+          })
+        where
+          each : (k : ℕ) → In k (listed s.equations) ⊎ In k (l ∷ []) → Binds literals first count k
+          each k (inl old) = g.binds k old
+          each k (inr (inl new)) = rw new binding
+          each k (inr (inr past)) = absurd past

@@ -1,9 +1,9 @@
 -- The rows of a body's positive literals: as a loop lists them, and what they stand for.
 use mathlib.Core.Path.{◌≡◌, refl, sym, ap, ◌∙◌}
-use mathlib.Core.Bool.{Bool, true, false, cond}
+use mathlib.Core.Bool.{Bool, true, false}
 use mathlib.Core.Logic.{inl, inr}
 use mathlib.Core.List.{List, ◌∷◌, ◌++◌, map, append-nil}
-use Prim.Native.Nat.{ℕ, zero, suc, ◌+◌, ◌≤◌, ◌<◌}
+use Prim.Native.Nat.{ℕ, zero, suc, ◌+◌, ◌-◌, ◌≤◌, ◌<◌}
 use native.Mathlib.Omega.{arith}
 use native.Mathlib.Numerals.{add-one}
 use lib.Dec.{eqb}
@@ -17,18 +17,9 @@ use Rattle.grammar.specs.Sizes.{most_literals}
 use Rattle.tables.specs.Layout.{sort_column, positive_sort, negated_sort}
 use Rattle.tables.specs.Rows.{from, literal_column, atom_at, literal_at}
 use Rattle.rulesafety.specs.declared.listed.Rows.{Rows}
-use Rattle.rulesafety.specs.Listed.{listed, no_rows, with_listed, Lists, positive_rows}
+use Rattle.rulesafety.specs.Listed.{listed, no_rows, with_listed, positive_rows}
 
 module _ (literals : List ℕ) where
-  -- ---- one literal
-
-  module _ (l : ℕ) (found : Rows) where
-    pub other_listed : (literal_column literals l sort_column ≡ positive_sort → ⊥) → found ≡ cond (eqb (literal_column literals l sort_column) positive_sort) (with_listed found l) found
-    other_listed n = rw (ne_eqb (literal_column literals l sort_column) positive_sort n)
-
-    pub positive_listed : literal_column literals l sort_column ≡ positive_sort → (more : Rows) → more ≡ with_listed found l → more ≡ cond (eqb (literal_column literals l sort_column) positive_sort) (with_listed found l) found
-    positive_listed e more is = rw (eq-eqb (literal_column literals l sort_column) positive_sort e) is
-
   -- ---- as a loop lists them
 
   rows_last : (n k : ℕ) → positive_rows literals (suc n) k ≡ positive_rows literals n k ++ positive_rows literals 1 (k + n)
@@ -51,27 +42,27 @@ module _ (literals : List ℕ) where
     unfolding positive_rows
     found_start found e = rw e (record { are = refl; few = omega arith; room = refl })
 
-    module _ (found : Rows) (i : ℕ) (f : Found first found i) where
-      pub found_on : (more : Rows) → i < most_literals → more ≡ cond (eqb (literal_column literals (first + i) sort_column) positive_sort) (with_listed found (first + i)) found → Found first more (i + 1)
-      unfolding positive_rows
-      found_on more h is = go (eqb (literal_column literals (first + i) sort_column) positive_sort) refl
-        where
-          go : (t : Bool) → eqb (literal_column literals (first + i) sort_column) positive_sort ≡ t → Found first more (i + 1)
-          go true e =
-              let fits : found.count < length found.rows = let r = f.room in let w = f.few in omega arith in
-              let one : more ≡ with_listed found (first + i) = is ∙ rw e in
-              rw one
-              (record {
-                are = rw (add-one found.count, take-suc-set found.rows found.count (first + i) fits, f.are, add-one i, rows_last i first, e);
-                few = let w = f.few in omega arith;
-                room = length-set found.rows found.count (first + i) ∙ f.room;
-              })
-          go false e =
-              let same : more ≡ found = is ∙ rw e in
-              rw same (record { are = f.are ∙ rw (add-one i, rows_last i first, e) (sym (append-nil _)); few = let w = f.few in omega arith; room = f.room })
+    module _ (found : Rows) (l : ℕ) (low : first ≤ l) (f : Found first found (l - first)) where
+      longer : l + 1 - first ≡ suc (l - first)
+      longer = omega arith
 
-      pub found_end : (count : ℕ) → count ≤ most_literals → count ≤ i → i ≤ count → Lists found (positive_rows literals count first)
-      found_end count short p q = let e : i ≡ count = omega arith in record { are = f.are ∙ rw e; few = let w = f.few in omega arith }
+      here : first + (l - first) ≡ l
+      here = omega arith
+
+      pub found_more : l - first < most_literals → literal_column literals l sort_column ≡ positive_sort → (more : Rows) → more ≡ with_listed found l → Found first more (l + 1 - first)
+      unfolding positive_rows
+      found_more h e more is =
+          let fits : found.count < length found.rows = let r = f.room in let w = f.few in omega arith in
+          rw is
+          (record {
+            are = rw (add-one found.count, take-suc-set found.rows found.count l fits, f.are, longer, rows_last (l - first) first, here, eq-eqb _ _ e);
+            few = let w = f.few in omega arith;
+            room = length-set found.rows found.count l ∙ f.room;
+          })
+
+      pub found_same : (literal_column literals l sort_column ≡ positive_sort → ⊥) → Found first found (l + 1 - first)
+      unfolding positive_rows
+      found_same n = record { are = f.are ∙ rw (longer, rows_last (l - first) first, here, ne_eqb _ _ n) (sym (append-nil _)); few = let w = f.few in omega arith; room = f.room }
 
   -- ---- what they stand for
 

@@ -4,6 +4,7 @@ use mathlib.Core.List.{List, [], ◌∷◌}
 use Prim.Native.Nat.{ℕ, ◌+◌, ◌*◌, ◌≤◌, ◌<◌}
 use native.Mathlib.Omega.{arith}
 use lib.ListN.{length, get_or, take, drop}
+use Rattle.std.specs.Int.{from_bool}
 use Rattle.grammar.specs.Sizes.{most_literals}
 use Rattle.tables.specs.Layout.{rule_rows, rule_stride, first_head_column, heads_column, first_literal_column, literals_column, has_operation_column, equations_column, positives_column, equation_places_column, positive_places_column}
 use Rattle.tables.specs.Stored.{with_row, Kept}
@@ -16,7 +17,7 @@ module _ (rules₀ : List ℕ) (number first : ℕ) (n : Numbers) (long : number
   at = number * rule_stride
 
   abbrev header : List ℕ
-  header = number * rule_rows ∷ n.heads ∷ first ∷ n.literals ∷ n.operation ∷ n.equations.count ∷ n.positives.count ∷ []
+  header = number * rule_rows ∷ n.heads ∷ first ∷ n.literals ∷ from_bool n.operation ∷ n.equations.count ∷ n.positives.count ∷ []
 
   module _ (rules₁ : List ℕ) (one : rules₁ ≡ with_row rules₀ at header) where
     kept₁ : Kept at (at + equation_places_column) rules₀ rules₁

@@ -1,12 +1,15 @@
 -- Whether a row is that of a built-in with an operation, by the tests of the code; whether some row of a body is, as a loop finds it, and what it
 -- says of the body's literals.
-use mathlib.Core.Path.{◌≡◌, refl, ◌∙◌}
-use mathlib.Core.Bool.{Bool, true, false, cond, true≢false}
+use mathlib.Core.Path.{◌≡◌, refl, sym}
+use mathlib.Core.Bool.{Bool, true, false, true≢false}
 use mathlib.Core.List.{List}
-use Prim.Native.Nat.{ℕ, zero, suc, ◌+◌, ◌-◌, ◌≤◌, ◌<◌}
+use Prim.Native.Nat.{ℕ, zero, suc, ◌≤◌, ◌<◌}
 use native.Mathlib.Omega.{arith}
+use native.Mathlib.Numerals.{add-one}
 use lib.Dec.{eqb}
 use borrow.Author.Tests.{eqb-false, eq-eqb, ne_eqb, lt-ltb, le-ltb}
+use Rattle.std.specs.Int.{from_bool}
+use Rattle.std.specs.List.{list_any, range_with_len}
 use Rattle.meaning.specs.Sets.{any}
 use Rattle.tables.specs.Layout.{sort_column, operation_column, positive_sort, negated_sort, builtin_sort}
 use Rattle.tables.specs.Rows.{from, literal_column, no_operation, side_at, literal_at}
@@ -45,28 +48,10 @@ module _ (literals : List ℕ) where
 
   -- ---- the rows of a body
 
-  module _ (count first : ℕ) where
-    pub operation_start : some_operation literals count first ≡ some_operation literals (count - 0) (first + 0)
-    operation_start =
-        let a : count - 0 ≡ count = omega arith in
-        let b : first + 0 ≡ first = omega arith in
-        rw (a, b)
-
-    module _ (i : ℕ) where
-      pub operation_here : i < count → row_operation literals (first + i) ≡ true → some_operation literals (count - i) (first + i) ≡ true
-      unfolding some_operation
-      operation_here h e = let a : count - i ≡ suc (count - (i + 1)) = omega arith in rw (a, e)
-
-      pub operation_later : i < count → row_operation literals (first + i) ≡ false → some_operation literals (count - i) (first + i) ≡ some_operation literals (count - (i + 1)) (first + (i + 1))
-      unfolding some_operation
-      operation_later h e =
-          let a : count - i ≡ suc (count - (i + 1)) = omega arith in
-          let b : first + (i + 1) ≡ suc (first + i) = omega arith in
-          rw (a, e, b)
-
-      pub operation_end : count ≤ i → some_operation literals (count - i) (first + i) ≡ false
-      unfolding some_operation
-      operation_end h = let a : count - i ≡ 0 = omega arith in rw a
+  pub operation_found : (n k : ℕ) → list_any (row_operation literals) (range_with_len k n) ≡ some_operation literals n k
+  unfolding some_operation
+  operation_found zero k = refl
+  operation_found (suc n) k = rw (add-one k, operation_found n (suc k))
 
   no_row : (n k : ℕ) → some_operation literals n k ≡ false → any has_operation (from (literal_at literals) n k) ≡ false
   unfolding some_operation any from
@@ -78,9 +63,6 @@ module _ (literals : List ℕ) where
       go false e g rec = rw (silent_row k e) (rec (rw e at g))
 
   -- a 0 says that no literal has one
-  pub operation_told : (count first r : ℕ) → r ≡ cond (some_operation literals count first) 1 0 → r ≡ 0 → any has_operation (from (literal_at literals) count first) ≡ false
-  operation_told count first r is h = no_row count first (go (some_operation literals count first) refl)
-    where
-      go : (b : Bool) → some_operation literals count first ≡ b → some_operation literals count first ≡ false
-      go true e = let z : r ≡ 1 = is ∙ rw e in absurd (let y : ⊥ = omega arith in y)
-      go false e = e
+  pub operation_told : (count first : ℕ) (b : Bool) → b ≡ some_operation literals count first → from_bool b ≡ 0 → any has_operation (from (literal_at literals) count first) ≡ false
+  operation_told count first true is h = absurd (let y : ⊥ = omega arith in y)
+  operation_told count first false is h = no_row count first (sym is)

@@ -1,6 +1,6 @@
 -- A rule is safe exactly where no variable that stands in it is unbound.
 use mathlib.Core.Path.{◌≡◌, refl, sym, ◌∙◌}
-use mathlib.Core.Bool.{Bool, true, false, not, ◌&&◌, false≢true}
+use mathlib.Core.Bool.{Bool, true, false, ◌&&◌, false≢true}
 use mathlib.Core.List.{List}
 use Prim.Native.Nat.{ℕ, ◌<◌}
 use lib.Dec.{ltb}
@@ -13,8 +13,8 @@ use Rattle.meaning.specs.Safety.{term_bound, side_bound, atom_bound, literal_bou
 use Rattle.meaning.proofs.Booleans.{and_left, and_right, and_both}
 use Rattle.meaning.proofs.Sets.{every_more}
 use Rattle.meaning.proofs.Herbrand.{bound_where_safe}
+use Rattle.std.specs.Prelude.{Option, is_none}
 use Rattle.texts.specs.declared.place.Place.{Place}
-use Rattle.rulesafety.specs.declared.unbound.Unbound.{Unbound}
 use Rattle.rulesafety.specs.Unbound.{FirstUnbound, found, all_bound}
 use Rattle.rulesafety.proofs.FirstUnbound.{AllBelow}
 
@@ -70,6 +70,6 @@ module _ {U : Type 0} (m : Rule U) where
       go false e = e
 
   -- where the variables that stand in the rule are exactly those with a first occurrence
-  pub safe_exactly : (firsts : List Place) (r : Unbound) → FirstUnbound (bound m) firsts r → NumbersBelow (length firsts) → ((x : ℕ) → x < length firsts → in_rule x m ≡ true) → safe m ≡ not r.found
+  pub safe_exactly : (firsts : List Place) (r : Option Place) → FirstUnbound (bound m) firsts r → NumbersBelow (length firsts) → ((x : ℕ) → x < length firsts → in_rule x m ≡ true) → safe m ≡ is_none r
   safe_exactly firsts r (found x h u all e) numbers stand = unsafe_of_unbound x (stand x h) u ∙ rw e
   safe_exactly firsts r (all_bound all e) numbers stand = safe_of_bound (length firsts) all numbers ∙ rw e

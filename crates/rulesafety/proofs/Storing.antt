@@ -1,6 +1,5 @@
 -- A rule's own row is stored: what it says of its body.
 use mathlib.Core.Path.{◌≡◌, sym, ◌∙◌}
-use mathlib.Core.Bool.{cond}
 use mathlib.Core.List.{List}
 use Prim.Native.Nat.{ℕ, ◌+◌, ◌*◌, ◌≤◌}
 use native.Mathlib.Omega.{arith}
@@ -17,7 +16,7 @@ use Rattle.rulesafety.specs.RuleRow.{some_operation, NumbersStored, first_of_bod
 use Rattle.rulesafety.proofs.Listing.{positives_stored, positives_inside}
 use Rattle.rulesafety.proofs.Operations.{operation_told}
 
-module _ (literals : List ℕ) (number count : ℕ) (s : Scan) (scanned : Scanned literals (first_of_body number) count s) (n : Numbers) (many : n.literals ≡ count) (operation : n.operation ≡ cond (some_operation literals count (first_of_body number)) 1 0) (binding : n.equations ≡ s.equations) (positive : Lists n.positives (positive_rows literals count (first_of_body number))) (rules rules' : List ℕ) (says : NumbersStored rules number (first_of_body number) n rules') where
+module _ (literals : List ℕ) (number count : ℕ) (s : Scan) (scanned : Scanned literals (first_of_body number) count s) (n : Numbers) (many : n.literals ≡ count) (operation : n.operation ≡ some_operation literals count (first_of_body number)) (binding : n.equations ≡ s.equations) (positive : Lists n.positives (positive_rows literals count (first_of_body number))) (rules rules' : List ℕ) (says : NumbersStored rules number (first_of_body number) n rules') where
   few : n.equations.count ≤ most_literals
   few = rw binding scanned.few
 

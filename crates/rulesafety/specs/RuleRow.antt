@@ -1,5 +1,6 @@
 -- A rule's own row, over its literals' rows: what is asked where it is stored, and what it then says.
 use Rattle.std.specs.Prelude.{◌≡◌, Bool, false, not, ◌&&◌, ◌||◌, List, map, ℕ, zero, suc, ◌+◌, ◌*◌, ◌≤◌, ◌<◌, eqb, ltb, length, take, drop}
+use Rattle.std.specs.Int.{from_bool}
 use Rattle.meaning.specs.Sets.{In, any}
 use Rattle.meaning.specs.Safety as meaning
 use Rattle.grammar.specs.Sizes.{most_heads, most_literals}
@@ -28,7 +29,7 @@ pub record NumbersStored (rules : List ℕ) (number first : ℕ) (n : Numbers) (
   pub heads : rule_column rules' number heads_column ≡ n.heads
   pub first_row : rule_column rules' number first_literal_column ≡ first
   pub literals : rule_column rules' number literals_column ≡ n.literals
-  pub operation : rule_column rules' number has_operation_column ≡ n.operation
+  pub operation : rule_column rules' number has_operation_column ≡ from_bool n.operation
   pub equation_count : rule_column rules' number equations_column ≡ n.equations.count
   pub positive_count : rule_column rules' number positives_column ≡ n.positives.count
   pub equations : take most_literals (drop (number * rule_stride + equation_places_column) rules') ≡ n.equations.rows

@@ -1,5 +1,5 @@
 -- What the scan of a body's rows gives, in the words of the meaning: the bound variables, and the rows of the equations that bind them.
-use Rattle.std.specs.Prelude.{◌≡◌, Bool, not, cond, ◌&&◌, List, map, ℕ, zero, suc, ◌+◌, ◌≤◌, ◌<◌, eqb, ltb}
+use Rattle.std.specs.Prelude.{◌≡◌, Bool, Option, Some, None, not, cond, ◌&&◌, List, map, ℕ, zero, suc, ◌+◌, ◌≤◌, ◌<◌, eqb, ltb}
 use Rattle.meaning.specs.Sets.{In}
 use Rattle.meaning.specs.Safety as meaning
 use Rattle.codes.specs.Arithmetic.{equal_code}
@@ -18,10 +18,10 @@ gains B literals l =
     not (ltb (literal_column literals l sort_column) builtin_sort)
     && (eqb (literal_column literals l comparison_column) equal_code && (not (meaning.term_bound B (term_of (literal_column literals l terms_column))) && meaning.side_bound B (side_at literals l)))
 
--- how many stand before the first that gains, of n from k on
-unfoldable pub first_gain : (ℕ → Bool) → ℕ → ℕ → ℕ
-first_gain p zero k = zero
-first_gain p (suc n) k = cond (p k) zero (suc (first_gain p n (suc k)))
+-- the first that gains, of n from k on
+unfoldable pub first_gain : (ℕ → Bool) → ℕ → ℕ → Option ℕ
+first_gain p zero k = None
+first_gain p (suc n) k = cond (p k) (Some k) (first_gain p n (suc k))
 
 -- one equation more
 abbrev pub with_equation : Scan → ℕ → ℕ → Scan

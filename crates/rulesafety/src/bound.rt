@@ -36,18 +36,14 @@ fn with_term(bound: Bound, code: u64) -> Bound
     with_variable(bound, code as usize)
 }
 
-// The bound variables with those of `count` terms from a place on.
-fn with_terms(bound: Bound, literals: &[u64], at: usize, count: usize) -> Bound
-    requires { at + count ≤ length literals.now }
-    ensures { Adds bound result (λ x. any (in_term x) (map term_of (take count (drop at literals.now)))) }
+// The bound variables with those of the terms.
+fn with_terms(mut bound: Bound, terms: &[u64]) -> Bound
+    ensures { Adds bound result (λ x. any (in_term x) (map term_of terms.now)) }
 {
-    let mut more = bound;
-    let mut i = 0;
-    while i < count {
-        more = with_term(more, literals[at + i]);
-        i += 1;
+    for code in terms {
+        bound = with_term(bound, *code);
     }
-    more
+    bound
 }
 
 // The bound variables with those of the literal, if it is a positive atom.
@@ -59,8 +55,8 @@ fn with_literal(bound: Bound, literals: &[u64], literal: usize) -> Bound
     if literals[row + SORT] != POSITIVE {
         return bound;
     }
-    let count = literals[row + PREDICATE] % ARITIES;
-    with_terms(bound, literals, row + TERMS, count as usize)
+    let count = (literals[row + PREDICATE] % ARITIES) as usize;
+    with_terms(bound, &literals[row + TERMS..row + TERMS + count])
 }
 
 // The variables that stand in the positive atoms of a body, which has `count` rows from `first` on.
@@ -68,15 +64,13 @@ pub fn in_positives(literals: &[u64], first: usize, count: usize) -> Bound
     requires { BodyInside literals.now first count }
     ensures { Adds no_variables result (in_positives (from (literal_at literals.now) count first)) }
 {
-    let mut more = Bound {
+    let mut bound = Bound {
         bits: [false; MOST_VARIABLES],
     };
-    let mut i = 0;
-    while i < count {
-        more = with_literal(more, literals, first + i);
-        i += 1;
+    for literal in first..first + count {
+        bound = with_literal(bound, literals, literal);
     }
-    more
+    bound
 }
 
 // A value, or a variable that is bound.

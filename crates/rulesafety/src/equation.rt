@@ -1,5 +1,5 @@
 // Equations that bind: which literal gains a variable, and the first of them from the left.
-ghost use Rattle.std.specs.Prelude.{◌≡◌};
+ghost use Rattle.std.specs.Prelude.{◌≡◌, IfSome, ◌+◌, ◌<◌};
 ghost use Rattle.tables.specs.WellFormed.{Inside};
 ghost use Rattle.rulesafety.specs.Bound.{bits_of, BodyInside};
 ghost use Rattle.rulesafety.specs.Scanned.{gains, first_gain};
@@ -32,17 +32,11 @@ fn gains(bound: Bound, literals: &[u64], literal: usize) -> bool
     term_bound(bound, literals[row + SECOND])
 }
 
-// How many of a body's rows, `count` from `first` on, stand before the first that binds a variable; all of them where none does.
-pub fn first_gain(literals: &[u64], first: usize, count: usize, bound: Bound) -> usize
+// The first row of a body that binds a variable. The body has `count` rows from `first` on.
+pub fn first_gain(literals: &[u64], first: usize, count: usize, bound: Bound) -> Option<usize>
     requires { BodyInside literals.now first count }
-    ensures { result ≡ first_gain (gains (bits_of bound) literals.now) count first }
+    ensures is { result ≡ first_gain (gains (bits_of bound) literals.now) count first }
+    ensures inside { IfSome result (λ literal. literal < first + count) }
 {
-    let mut i = 0;
-    while i < count {
-        if gains(bound, literals, first + i) {
-            return i;
-        }
-        i += 1;
-    }
-    i
+    (first..first + count).find(|literal| gains(bound, literals, *literal))
 }

@@ -20,7 +20,7 @@ use texts::sizes::MOST_HEADS;
 struct Numbers {
     heads: usize,
     literals: usize,
-    operation: u64,
+    operation: bool,
     equations: Rows,
     positives: Rows,
 }
@@ -40,19 +40,12 @@ fn row_operation(literals: &[u64], literal: usize) -> bool
     true
 }
 
-// 1 where some row of a body has an operation, else 0. The body has `count` rows from `first` on.
-fn has_operation(literals: &[u64], first: usize, count: usize) -> u64
+// Some row of a body has an operation. The body has `count` rows from `first` on.
+fn has_operation(literals: &[u64], first: usize, count: usize) -> bool
     requires { BodyInside literals.now first count }
-    ensures { result ≡ cond (some_operation literals.now count first) 1 0 }
+    ensures { result ≡ some_operation literals.now count first }
 {
-    let mut i = 0;
-    while i < count {
-        if row_operation(literals, first + i) {
-            return 1;
-        }
-        i += 1;
-    }
-    0
+    (first..first + count).any(|literal| row_operation(literals, literal))
 }
 
 // The row of the rule with a number, whose heads have the first rows of that number and whose body those from `first` on.
@@ -68,7 +61,7 @@ fn put_numbers(rules: &mut [u64], number: usize, first: usize, numbers: Numbers)
         numbers.heads as u64,
         first as u64,
         numbers.literals as u64,
-        numbers.operation,
+        u64::from(numbers.operation),
         equations.count as u64,
         positives.count as u64,
     ];

@@ -6,7 +6,7 @@ ghost use Rattle.rulesafety.specs.Scanned.{with_equation, Scanned};
 
 use crate::bound::{Bound, in_positives, with_variable};
 use crate::equation::first_gain;
-use crate::listed::{Rows, no_rows, with_listed};
+use crate::listed::Rows;
 use tables::{LITERAL, TERMS};
 
 // What is bound, and the rows of the equations that bind, in the order in which they do.
@@ -16,14 +16,15 @@ pub struct Scan {
     pub equations: Rows,
 }
 
-// The scan with one equation more, which binds `variable`.
-fn with_equation(scan: Scan, literal: usize, variable: usize) -> Scan
-    requires { (scan.equations.count < most_literals) × (variable < most_variables) }
-    ensures { result ≡ with_equation scan literal variable }
-{
-    let bound = with_variable(scan.bound, variable);
-    let equations = with_listed(scan.equations, literal);
-    Scan { bound, equations }
+impl Scan {
+    // One equation more, which binds `variable`.
+    fn push(&mut self, literal: usize, variable: usize)
+        requires { (self.old.equations.count < most_literals) × (variable < most_variables) }
+        ensures { self.new ≡ with_equation self.old literal variable }
+    {
+        self.bound = with_variable(self.bound, variable);
+        self.equations.push(literal);
+    }
 }
 
 // From the left, starting over after each gain. The body has `count` rows from `first` on.
@@ -33,16 +34,14 @@ pub fn scan_of(literals: &[u64], first: usize, count: usize) -> Scan
 {
     let mut scan = Scan {
         bound: in_positives(literals, first, count),
-        equations: no_rows(),
+        equations: Rows::new(),
     };
     while scan.equations.count < count {
-        let at = first_gain(literals, first, count, scan.bound);
-        if count <= at {
+        let Some(literal) = first_gain(literals, first, count, scan.bound) else {
             return scan;
-        }
-        let literal = first + at;
+        };
         let left = literals[literal * LITERAL + TERMS];
-        scan = with_equation(scan, literal, left as usize);
+        scan.push(literal, left as usize);
     }
     scan
 }

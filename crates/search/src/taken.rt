@@ -8,10 +8,8 @@ pub fn take_all(when: &mut [u16], queue: &mut [u16], count: usize)
     requires { Fresh when.old queue.old × (length when.old ≡ suc count) }
     ensures { AllTaken count when.new queue.new }
 {
-    let mut a: usize = 0;
-    while a < count {
+    for a in 0..count {
         when[a] = a as u16;
         queue[a] = a as u16;
-        a += 1;
     }
 }

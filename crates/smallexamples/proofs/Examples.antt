@@ -47,11 +47,11 @@ use Rattle.promise.specs.Answered.{rule_part}
 use Rattle.smallexamples.specs.Examples.{Example, Holds, examples, ordered, disjunctions, untested}
 use Rattle.smallexamples.proofs.Unclashing.{unlike, apart}
 use Rattle.smallexamples.proofs.Bound.{every_below, all_bound}
-use Rattle.smallexamples.proofs.Texts.{fits, tree_of, tree_in, program_rules, is_answer, reports_facts, is_nothing, line_facts, output_facts, program_taken, output_taken, facts_untested, answered_with_room, answered_untested, answered_without_room}
+use Rattle.smallexamples.proofs.Texts.{fits, tree_of, tree_in, program_rules, is_answer, answer_of, is_nothing, line_facts, output_facts, program_taken, output_taken, facts_untested, answered_with_room, answered_untested, answered_without_room}
 
 -- to unfold this is to unfold all that reading a text computes with
 read_opened : Unit {0}
-unfolding class_of is_blank prefix_len starts_comment gap between longer closing decimal_after single_kind pair_kind name_kind mark_at string_at other_at token_at next_token tokens_up_to tokens_from every any predicate same_number same_bytes same_value in_term in_atom positives in_positives term_bound side_bound when else gain_left gain next_gain with scan equations bound_after bound same_sign same_predicate same_arguments same_fact then last_bytes ascii value_for values_for argument_values_for fact_for facts_for computing token_of head_variables rule_variables lines_at starts_with report_of out_of_place_of unlike apart every_below all_bound fits tree_of tree_in program_rules is_answer reports_facts is_nothing line_facts output_facts
+unfolding class_of is_blank prefix_len starts_comment gap between longer closing decimal_after single_kind pair_kind name_kind mark_at string_at other_at token_at next_token tokens_up_to tokens_from every any predicate same_number same_bytes same_value in_term in_atom positives in_positives term_bound side_bound when else gain_left gain next_gain with scan equations bound_after bound same_sign same_predicate same_arguments same_fact then last_bytes ascii value_for values_for argument_values_for fact_for facts_for computing token_of head_variables rule_variables lines_at starts_with report_of out_of_place_of unlike apart every_below all_bound fits tree_of tree_in program_rules is_answer answer_of is_nothing line_facts output_facts
 read_opened = tt
 
 -- ---- the texts are read as the rules and facts

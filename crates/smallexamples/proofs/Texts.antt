@@ -6,7 +6,7 @@ use mathlib.Core.Option.{Option, none, some}
 use mathlib.Core.List.{List, [], ◌∷◌}
 use Prim.Native.Nat.{ℕ, ◌≤◌, ◌<◌}
 use native.Mathlib.Omega.{arith}
-use lib.Dec.{eqb, leb, ltb}
+use lib.Dec.{leb, ltb}
 use lib.ListN.{length}
 use borrow.Author.Tests.{leb-true}
 use Rattle.texts.specs.declared.place.Place.{Place}
@@ -30,6 +30,8 @@ use Rattle.syntax.specs.Text.{placed_from, end_of}
 use Rattle.syntax.specs.Programs.{ReadAs}
 use Rattle.stages.specs.Parts.{output, start_of}
 use Rattle.stages.specs.Stage.{Outcome, on, stop, stops, goes, given, passed, without, Reads}
+use Rattle.std.specs.Prelude.{Result as ResultOf, Ok, Err}
+use Rattle.texts.specs.declared.refusal.Refused.{Refused}
 use Rattle.report.specs.declared.word.Word.{Word}
 use Rattle.report.specs.declared.word.Word.TheVariants as words
 use Rattle.report.specs.declared.around.Found.{Found}
@@ -103,17 +105,18 @@ is_answer words.Inconsistent = false
 is_answer words.Unknown = false
 
 -- ANSWER, with its facts line
-unfoldable pub reports_facts : Report → Bool
-reports_facts r = eqb r.code 0 && is_answer r.word
+unfoldable pub answer_of : ResultOf Report Refused → Option Report
+answer_of (Ok r) = when (is_answer r.word) (some r)
+answer_of (Err e) = none
 
-facts_reported : (text : Bytes) (r : Report) → Reported text r → reports_facts r ≡ true → Reported text (found words.Answer r.facts r.next)
-unfolding reports_facts is_answer
-facts_reported text r (missing i) h = absurd (false≢true h)
-facts_reported text r (stray line behind f none_said) h = absurd (false≢true h)
-facts_reported text r (says line [] f words.Answer s) h = absurd (false≢true h)
-facts_reported text r (says line (l ∷ ls) f words.Answer s) h = says line (l ∷ ls) f words.Answer s
-facts_reported text r (says line behind f words.Inconsistent s) h = absurd (false≢true h)
-facts_reported text r (says line behind f words.Unknown s) h = absurd (false≢true h)
+answer_reported : (text : Bytes) (r : ResultOf Report Refused) → Reported text r → (a : Report) → answer_of r ≡ some a → Reported text (found words.Answer a.facts a.next)
+unfolding answer_of is_answer when
+answer_reported text r (missing i) a h = absurd (none_some h)
+answer_reported text r (stray line behind f none_said) a h = absurd (none_some h)
+answer_reported text r (says line [] f words.Answer s) a h = absurd (none_some h)
+answer_reported text r (says line (l ∷ ls) f words.Answer s) a h = rw (← (some_inj h)) (says line (l ∷ ls) f words.Answer s)
+answer_reported text r (says line behind f words.Inconsistent s) a h = absurd (none_some h)
+answer_reported text r (says line behind f words.Unknown s) a h = absurd (none_some h)
 
 unfoldable pub is_nothing : Found → Bool
 is_nothing (End end) = true
@@ -131,8 +134,7 @@ line_facts line = then (tree_in true line) (λ fs. when (apart (facts_for fs)) (
 -- the candidate, where the output is within its size and reports one, and no line behind it is out of place
 unfoldable pub output_facts : Bytes → Option (List (Fact Value))
 output_facts text =
-    let r = (report_of text).0 in
-    when (fits text && (reports_facts r && is_nothing (out_of_place_of text r.next.start).0)) (line_facts (part text r.facts))
+    then (answer_of (report_of text).0) (λ r. when (fits text && is_nothing (out_of_place_of text r.next.start).0) (line_facts (part text r.facts)))
 
 pub record ReportedAs (text : Bytes) (I : List (Fact Value)) : Type 0 where
   pub line : Place
@@ -144,16 +146,16 @@ pub record ReportedAs (text : Bytes) (I : List (Fact Value)) : Type 0 where
 pub output_taken : (text : Bytes) (I : List (Fact Value)) → output_facts text ≡ some I → ReportedAs text I
 unfolding output_facts line_facts fits
 output_taken text I h =
-    let r = (report_of text).0 in
+    let answer = then_some (answer_of (report_of text).0) _ I h in
+    let r = answer.0 in
     let line = r.facts in
     let o = out_of_place_of text r.next.start in
-    let tests = when_some (fits text && (reports_facts r && is_nothing o.0)) (line_facts (part text line)) I h in
-    let size = leb-true (length text) most_text (and_left (fits text) (reports_facts r && is_nothing o.0) tests.0) in
-    let report = and_right (fits text) (reports_facts r && is_nothing o.0) tests.0 in
+    let tests = when_some (fits text && is_nothing o.0) (line_facts (part text line)) I answer.2 in
+    let size = leb-true (length text) most_text (and_left (fits text) (is_nothing o.0) tests.0) in
     let reads = then_some (tree_in true (part text line)) _ I tests.1 in
     let clear = when_some (apart (facts_for reads.0)) _ I reads.2 in
-    let opening = facts_reported text r (report_of text).1 (and_left (reports_facts r) (is_nothing o.0) report) in
-    let closing = nothing_found text r.next.start o.0 o.1 (and_right (reports_facts r) (is_nothing o.0) report) in
+    let opening = answer_reported text (report_of text).0 (report_of text).1 r answer.1 in
+    let closing = nothing_found text r.next.start o.0 o.1 (and_right (fits text) (is_nothing o.0) tests.0) in
     let fs = reads.0 in
     let x = on (facts line fs) in
     record {

@@ -1,6 +1,6 @@
 -- Rule after rule, and what the first subset that is left says.
 use mathlib.Core.Path.{◌≡◌, refl, sym, ap, ◌∙◌}
-use mathlib.Core.Bool.{Bool, true, false, ◌&&◌, ◌||◌}
+use mathlib.Core.Bool.{Bool, true, false, cond, ◌&&◌, ◌||◌}
 use mathlib.Core.Logic.{inr}
 use mathlib.Core.Option.{none}
 use mathlib.Core.List.{List, [], ◌∷◌}
@@ -8,15 +8,19 @@ use Prim.Native.Nat.{ℕ, ◌+◌, ◌*◌, ◌-◌, ◌/◌, ◌%◌, ◌^◌, 
 use native.Mathlib.Omega.{arith}
 use native.Mathlib.Decide.{dec_lt}
 use native.Mathlib.Numerals.{add-one}
-use borrow.Author.Tests.{lt-ltb, ltb-true}
+use borrow.Author.Tests.{lt-ltb, le-ltb, ltb-true}
 use lib.Dec.{ltb}
 use lib.Pow.{pow-lt, suc_ones}
 use lib.ListN.{length, take, drop, replicate}
+use Rattle.std.proofs.Math.Bool.{or-false, or_assoc}
 use Rattle.meaning.specs.Sets.{every, any}
 use Rattle.meaning.specs.Rules.{Bytes, Fact, Rule}
 use Rattle.meaning.specs.Safety.{in_positives, positives, safe}
+use Rattle.meaning.specs.Verdicts.{accepted, smaller}
+use Rattle.meaning.specs.Quick.{clauses, smaller_set, shows}
 use Rattle.meaning.proofs.Booleans.{and_left}
 use Rattle.meaning.proofs.Sets.{any_append, any_one}
+use Rattle.std.specs.Prelude.{Some, None}
 use Rattle.codes.specs.Domains.{codes}
 use Rattle.codes.proofs.Coded.{code_laws}
 use Rattle.tables.specs.Rows.{from, fact_at, facts_of, rule_at, rules_of}
@@ -43,11 +47,7 @@ use Rattle.subset_test.proofs.Least.{first_shown}
 
 pub none_refuted : (ranks store : List ℕ) (count total : ℕ) (table : List ℕ) → Refutes ranks store count total 0 table table
 unfolding refuted any from
-none_refuted ranks store count total table = record { long = refl; out = λ names c J h. still (ruled_out table J) }
-  where
-    still : (b : Bool) → b ≡ (b || false)
-    still true = refl
-    still false = refl
+none_refuted ranks store count total table = record { long = refl; out = λ names c J h. sym (or-false (ruled_out table J)) }
 
 -- ---- one rule
 
@@ -79,16 +79,12 @@ module _ (store : List ℕ) (count total : ℕ) (tables : Tables store count tot
           w.out names (λ x. none) (leading_start ranks names c values) J (omega (arith, so.long))
           ∙ ap (λ (b : Bool). ruled_out table J || (b && here names J)) (all_of_none J)
           ∙ ap (λ (b : Bool). b || here names J) (so.out names c J h)
-          ∙ or_again (ruled_out table₀ J) (refuted (codes names) (facts_of (facts_in store) count) (rules_of (rules_in store) (literals_in store) r) J) (here names J)
+          ∙ or_assoc (ruled_out table₀ J) (refuted (codes names) (facts_of (facts_in store) count) (rules_of (rules_in store) (literals_in store) r) J) (here names J)
           ∙ ap (λ (b : Bool). ruled_out table₀ J || b) (sym (ap (any (test names J)) (from_last (rule_at (rules_in store) (literals_in store)) r 0) ∙ any_append (test names J) (rules_of (rules_in store) (literals_in store) r) (rule_at (rules_in store) (literals_in store) (0 + r) ∷ []) ∙ ap (λ (b : Bool). any (test names J) (rules_of (rules_in store) (literals_in store) r) || b) (any_one (test names J) (rule_at (rules_in store) (literals_in store) (0 + r)) ∙ rw (z, ← standing.rule_row.positives_stored) refl)));
     })
       where
         here : List Bytes → ℕ → Bool
         here names J = refuted_from (codes names) (facts_for store (goal_for count r false)) (rule_for store (goal_for count r false)) (left_from store start) (λ x. none) J
-
-        or_again : (a b c : Bool) → ((a || b) || c) ≡ (a || (b || c))
-        or_again true b c = refl
-        or_again false b c = refl
 
 -- ---- all rules
 
@@ -110,7 +106,7 @@ module _ (ranks store : List ℕ) (count total : ℕ) (table₀ table : List ℕ
 
 -- ---- what is answered
 
-module _ (ranks store : List ℕ) (count total : ℕ) (tables : Tables store count total) (number : ℕ) (first : Unrefuted ranks store count total number) (set : Derived) (kept : KeptFacts number count set) where
+module _ (ranks store : List ℕ) (count total : ℕ) (tables : Tables store count total) (number : ℕ) (first : Unrefuted ranks store count total number) where
   abbrev I : List (Fact ℕ)
   I = facts_of (facts_in store) count
 
@@ -123,16 +119,23 @@ module _ (ranks store : List ℕ) (count total : ℕ) (tables : Tables store cou
   all_safe : every safe P ≡ true
   all_safe = every_from safe (rule_at (rules_in store) (literals_in store)) total 0 (λ i a b. (tables.rule_table.rule i (omega arith)).is_safe)
 
-  same_set : from (bit number) count 0 ≡ from (holds set) count 0
-  same_set = from_same (bit number) (holds set) count 0 (λ i a b. sym (kept.has i ∙ ap (λ (x : Bool). x && bit number i) (lt-ltb i count (omega arith))))
+  shown : (names : List Bytes) → Comparing names ranks store total → shows I (smaller_set (codes names) (clauses (codes names) P I) I) ≡ cond (ltb number (own_number count)) (smaller (from (bit number) count 0)) (accepted count 0 [])
+  shown names c = rw long at (first_shown (codes names) (code_laws names) P I all_safe (apart_once (facts_in store) count tables.apart) number (rw long first.within) (first.before names c) (λ h. first.here names c (rw long at h)))
 
-  pub tested : Tested ranks store count total (record { found = ltb number (own_number count); set = set })
+  pub tested_none : own_number count ≤ number → Tested ranks store count total None
   unfolding told
-  tested = record {
+  tested_none h = record { well_kept = tt; inside = tt; says = λ names c. rw (le-ltb number (own_number count) h) at (shown names c) }
+
+  pub tested_some : number < own_number count → (set : Derived) → KeptFacts number count set → Tested ranks store count total (Some set)
+  unfolding told
+  tested_some h set kept = record {
     well_kept = kept.well_kept;
-    inside = λ a h. ltb-true a count (and_left (ltb a count) (bit number a) (sym (kept.has a) ∙ h));
-    says = λ names c. rw (long, same_set) at (first_shown (codes names) (code_laws names) P I all_safe (apart_once (facts_in store) count tables.apart) number (rw long first.within) (first.before names c) (λ h. first.here names c (rw long at h)));
+    inside = λ a b. ltb-true a count (and_left (ltb a count) (bit number a) (sym (kept.has a) ∙ b));
+    says = λ names c. rw (lt-ltb number (own_number count) h, same_set) at (shown names c);
   }
+    where
+      same_set : from (bit number) count 0 ≡ from (holds set) count 0
+      same_set = from_same (bit number) (holds set) count 0 (λ i a b. sym (kept.has i ∙ ap (λ (x : Bool). x && bit number i) (lt-ltb i count (omega arith))))
 
 -- ---- the table as code cuts it
 

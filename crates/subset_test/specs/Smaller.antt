@@ -1,5 +1,5 @@
 -- What the test against every proper subset answers, in the words of the quick check.
-use Rattle.std.specs.Prelude.{◌≡◌, true, false, cond, ◌&&◌, ◌||◌, List, [], ℕ, ◌*◌, ◌-◌, ◌^◌, ◌≤◌, ◌<◌, ltb, length, get_or}
+use Rattle.std.specs.Prelude.{◌≡◌, true, false, ◌&&◌, ◌||◌, Option, Some, None, IfSome, List, [], ℕ, ◌*◌, ◌-◌, ◌^◌, ◌≤◌, ◌<◌, ltb, length, get_or}
 use Rattle.meaning.specs.Rules.{Bytes}
 use Rattle.meaning.specs.Verdicts.{Verdict, accepted, smaller}
 use Rattle.meaning.specs.Quick.{clauses, smaller_set, shows}
@@ -10,7 +10,6 @@ use Rattle.derived_set.specs.Members.{bit, holds, WellKept}
 use Rattle.store.specs.Store.{facts_in, literals_in, rules_in}
 use Rattle.matchings.specs.Tables.{Comparing}
 use Rattle.subsets.specs.Table.{most_words, ruled_out}
-use Rattle.subset_test.specs.declared.Smaller.{Smaller}
 use Rattle.subset_test.specs.Refuted.{refuted}
 
 -- the first rules rule out what their matchings refute, beside what was ruled out
@@ -40,10 +39,11 @@ pub record KeptFacts (number count : ℕ) (s : Derived) : Type 0 where
   pub has : (a : ℕ) → holds s a ≡ (ltb a count && bit number a)
 
 -- the verdict of a smaller set, or of none
-unfoldable pub told : Smaller → ℕ → Verdict
-told r count = cond r.found (smaller (from (holds r.set) count 0)) (accepted count 0 [])
+unfoldable pub told : Option Derived → ℕ → Verdict
+told None count = accepted count 0 []
+told (Some s) count = smaller (from (holds s) count 0)
 
-pub record Tested (ranks store : List ℕ) (count total : ℕ) (r : Smaller) : Type 0 where
-  pub well_kept : WellKept r.set
-  pub inside : (a : ℕ) → holds r.set a ≡ true → a < count
+pub record Tested (ranks store : List ℕ) (count total : ℕ) (r : Option Derived) : Type 0 where
+  pub well_kept : IfSome r WellKept
+  pub inside : IfSome r (λ s. (a : ℕ) → holds s a ≡ true → a < count)
   pub says : (names : List Bytes) → Comparing names ranks store total → shows (facts_of (facts_in store) count) (smaller_set (codes names) (clauses (codes names) (rules_of (rules_in store) (literals_in store) total) (facts_of (facts_in store) count)) (facts_of (facts_in store) count)) ≡ told r count

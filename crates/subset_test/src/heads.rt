@@ -12,13 +12,11 @@ pub fn heads_mask(store: &[u64], count: usize, first: usize, heads: usize, value
     ensures { HeadsMasked store.now count first heads values.now result }
 {
     let mut mask: u64 = 0;
-    let mut k: usize = 0;
-    while k < heads {
-        let place = leaf::place(store, count, first + k, values);
+    for l in first..first + heads {
+        let place = leaf::place(store, count, l, values);
         if place < count {
-            mask = mask | (1u64 << place);
+            mask |= 1u64 << place;
         }
-        k += 1;
     }
     mask
 }

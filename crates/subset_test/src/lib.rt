@@ -24,13 +24,6 @@ const WORDS: usize = 16_384;
 // The bits of a word.
 const BITS: usize = 64;
 
-// A smaller set, if there is one.
-#[derive(Clone, Copy)]
-pub struct Smaller {
-    pub found: bool,
-    pub set: Derived,
-}
-
 // Rules out each subset that a matching of some rule refutes.
 fn refute_all(
     store: &[u64],
@@ -44,8 +37,7 @@ fn refute_all(
     ensures { Refutes ranks.now store.now count total total table.old table.new }
 {
     let mut values = [0u64; 16];
-    let mut r: usize = 0;
-    while r < total {
+    for r in 0..total {
         let goal = Goal {
             count,
             rule: r,
@@ -59,7 +51,6 @@ fn refute_all(
             body: 0,
         };
         refute_from(store, ranks, &mut values, table, seen, start);
-        r += 1;
     }
 }
 
@@ -69,12 +60,10 @@ fn kept_facts(number: usize, count: usize) -> Derived
     ensures { KeptFacts number count result }
 {
     let mut set = Derived::empty();
-    let mut a: usize = 0;
-    while a < count {
+    for a in 0..count {
         if (number >> a) % 2 == 1 {
             set = set.mark(a);
         }
-        a += 1;
     }
     set
 }
@@ -120,7 +109,7 @@ fn first_unrefuted(
 }
 
 // The proper subset that satisfies the reduct and has the least number, if one does.
-pub fn least_smaller(store: &[u64], ranks: &[u32], count: usize, total: usize) -> Smaller
+pub fn least_smaller(store: &[u64], ranks: &[u32], count: usize, total: usize) -> Option<Derived>
     requires { Tables store.now count total × (count ≤ most_facts) }
     ensures { Tested ranks.now store.now count total result }
 {
@@ -128,7 +117,8 @@ pub fn least_smaller(store: &[u64], ranks: &[u32], count: usize, total: usize) -
     let mut seen = none_seen();
     let words = words_for(count);
     let number = first_unrefuted(store, ranks, count, total, &mut table[0..words], &mut seen);
-    let found = number < own_number(count);
-    let set = kept_facts(number, count);
-    Smaller { found, set }
+    if number < own_number(count) {
+        return Some(kept_facts(number, count));
+    }
+    None
 }

@@ -57,7 +57,7 @@ fn mark_words(table: &mut [u64], pattern: u64, body: usize, heads: usize)
     let mut others: usize = 0;
     while others + body < table.len() {
         let word = others + body;
-        table[word] = table[word] | pattern;
+        table[word] |= pattern;
         others = (others + fixed + 1) & !fixed;
     }
 }
@@ -85,14 +85,13 @@ fn full_words(table: &[u64], most: usize) -> usize
     requires { most ≤ 64 * length table.now }
     ensures { AllOut table.now result × (result ≤ most) }
 {
-    let mut at: usize = 0;
-    while most - at >= BITS {
-        if table[at / BITS] != FULL {
-            return at;
+    let words = most / BITS;
+    for (w, word) in table[..words].iter().enumerate() {
+        if *word != FULL {
+            return w * BITS;
         }
-        at += BITS;
     }
-    at
+    words * BITS
 }
 
 // The first of the subsets below `most` that is not ruled out, or `most`.
@@ -100,12 +99,10 @@ pub fn first_left(table: &[u64], most: usize) -> usize
     requires { most ≤ 64 * length table.now }
     ensures { FirstLeft table.now most result }
 {
-    let mut at = full_words(table, most);
-    while at < most {
+    for at in full_words(table, most)..most {
         if (table[at / BITS] >> (at % BITS)) % 2 == 0 {
             return at;
         }
-        at += 1;
     }
-    at
+    most
 }

@@ -3,40 +3,38 @@ use mathlib.Core.Path.{◌≡◌, refl, sym as inv, ◌∙◌}
 use mathlib.Core.Bool.{Bool, true, false, true≢false}
 use mathlib.Core.Option.{none, some}
 use mathlib.Core.List.{List, [], ◌++◌}
-use Prim.Native.Nat.{ℕ, ◌≤◌}
+use Prim.Native.Nat.{ℕ, ◌≤◌, ◌<◌}
 use native.Mathlib.Omega.{arith}
 use lib.Dec.{eqb, leb}
-use borrow.Author.Tests.{ne_eqb, eqb-true, eqb-false, leb-true}
+use borrow.Author.Tests.{ne_eqb, eqb-true, eqb-false, leb-true, le-ltb}
 use Rattle.texts.specs.declared.place.Place.{Place}
+use Rattle.texts.specs.declared.refusal.Refusal.TheVariants.{Misplaced, OverSize}
 use Rattle.texts.specs.Parts.{part}
-use Rattle.reading.specs.Reading.{refused}
 use Rattle.texts.specs.Place.{Stands}
 use Rattle.meaning.specs.Rules.{Bytes, Term, Atom}
 use Rattle.meaning.specs.Values.{Value}
 use Rattle.grammar.specs.Tokens.{Token, opening}
-use Rattle.grammar.specs.Trees.{Arguments as Tree, bare, Atom as AtomTree, atom, Program}
+use Rattle.grammar.specs.Trees.{bare, Atom as AtomTree, atom, Program}
 use Rattle.grammar.specs.Spelling.{Mark, inside, spell_arguments, spell_signed, spell_atom}
-use Rattle.grammar.specs.Variables.{Variables as Names, meet_symbol, meet, met}
+use Rattle.grammar.specs.Variables.{meet_symbol, meet, met}
 use Rattle.grammar.specs.Abstraction.{arguments_for, atom_for}
-use Rattle.grammar.specs.Sizes.{too_big, too_long, too_many, is_underscore, too_many_variables}
+use Rattle.grammar.specs.Sizes.{most_bytes, too_big, too_long, too_many, is_underscore, too_many_variables}
 use Rattle.grammar.specs.States.{State, AtomContext, head_behind, head_after, literal_in, not_in, atom_wanted, atom_minus, named, opened, closed, atom_mark}
 use Rattle.grammar.specs.Moves.{Move, on, free_moves, symbol_number, token_number, when, fire, either, try}
 use Rattle.grammar.specs.Machine.{after_atom, else_wanted, else_minus, else_named, moves, step, finished_atom, finished}
 use Rattle.grammar.proofs.Numbers.{fire_number, fire_by_number, try_number}
 use Rattle.grammar.proofs.Variables.{met_append, met_signed}
-use Rattle.syntax.specs.declared.token.Progress.{Progress}
 use Rattle.syntax.specs.declared.token.TokenRead.{TokenRead}
 use Rattle.syntax.specs.Text.{token_of, token_read, next_of}
 use Rattle.syntax.specs.Variables.{Fits}
 use Rattle.syntax.specs.Ahead.{wants, from}
-use Rattle.syntax.specs.Fills.{Production, going, halted, Fills, read, stopped}
-use Rattle.syntax.specs.Terms.{word_code}
+use Rattle.syntax.specs.Fills.{Production, Goes, Stops}
 use Rattle.syntax.specs.Arguments.{arguments_in}
 use Rattle.syntax.specs.Atoms.{NamedPlace, MinusPlace, AtomPlace, head, also, negated, atom_context, named_in, minus_in, atom_in}
 use Rattle.syntax.proofs.Tokens.{token_by, token_here, part_length, number_here, forward}
 use Rattle.syntax.proofs.Steps.{meets_none, on_kind, over_kind, wrong_token, same_token}
-use Rattle.syntax.proofs.Sizes.{fault_none, fault_many, word_kept, word_four, word_fault}
-use Rattle.syntax.proofs.Readings.{fills_as}
+use Rattle.syntax.proofs.Sizes.{fault_none, fault_many, word_fault}
+use Rattle.syntax.proofs.Readings.{Around}
 
 -- ---- behind a name
 
@@ -61,54 +59,58 @@ not_compared {ground} a s b ms u k e h = go (leb 13 k) refl (leb k 19) refl a s 
 
 module _ (ground : Bool) (text : Bytes) (at : Place) (stands : Stands text at) (t : TokenRead) (et : t ≡ token_read ground text at.start) (negative : Bool) (b : Bytes) (v : List Place) where
   -- no parenthesis: the atom ends with its name
-  pub named_bare : {S : Atom (Term Value) → Type 0} → Fits v → (t.kind ≡ 5 → ⊥) → S (record { negative = negative; name = b; arguments = [] }) → Fills (named_in ground text at.start negative b) false text at.start v (going at) v S
+  pub named_bare : {S : Atom (Term Value) → Type 0} → Fits v → (t.kind ≡ 5 → ⊥) → S (record { negative = negative; name = b; arguments = [] }) → Goes (named_in ground text at.start negative b) false text at.start v at v S
   unfolding moves try either fire_number when symbol_number finished met spell_arguments atom_for arguments_for
-  named_bare fits ne s = read refl (omega arith) stands refl fits bare s refl (λ h. same_token ground text at.start t et (wants (named h.context negative b)) (wants (closed h.context (atom negative b bare))) v (taken h) refl)
+  named_bare fits ne s = record { forward = omega arith; stands = stands; kept = refl; fits = fits; tree = bare; means = s; names = refl; ahead = λ h. same_token ground text at.start t et (wants (named h.context negative b)) (wants (closed h.context (atom negative b bare))) v (taken h) refl }
     where
       taken : (h : NamedPlace ground text at.start negative b) → (t.kind ≡ 20 → ⊥) → try (moves (named h.context negative b)) (token_here ground text at.start t et) ≡ try (moves (closed h.context (atom negative b bare))) (token_here ground text at.start t et)
       taken h z = rw (fire_by_number (on inside opening (opened h.context negative b)) (token_here ground text at.start t et), number_here ground text at.start t et z, ne_eqb t.kind 5 ne) (not_compared h.context negative b (after_atom h.context (atom negative b bare)) (token_here ground text at.start t et) t.kind (number_here ground text at.start t et z) (rw et h.alone))
 
 module _ (ground : Bool) (text : Bytes) (at : ℕ) (t : TokenRead) (et : t ≡ token_read ground text at) (negative : Bool) (b : Bytes) (v : List Place) where
   -- with arguments, behind the parenthesis
-  pub named_opens : {r : Progress} {v' : List Place} {S : List (Term Value) → Type 0} {T : Atom (Term Value) → Type 0} → t.kind ≡ 5 → ((terms : List (Term Value)) → at ≤ next_of t → next_of t ≤ r.place.start → S terms → T (record { negative = negative; name = b; arguments = terms })) → Fills (arguments_in ground) false text (next_of t) v r v' S → Fills (named_in ground text at negative b) false text at v r v' T
+  pub named_around : t.kind ≡ 5 → Around (arguments_in ground) (named_in ground text at negative b) (λ terms. record { negative = negative; name = b; arguments = terms }) false false text (next_of t) at v v
   unfolding atom_for moves try fire either when token_of symbol_number token_number too_big too_long too_many too_many_variables is_underscore meet meet_symbol
-  named_opens {T = T} ek stands g = fills_as (named_in ground text at negative b) false at (λ x. x) (λ h. record { context = h.context; negative = negative; name = b }) (λ o. o) open_on (λ h x. refl) (λ vs x. refl) T ahead (λ vs x l s. stands _ ahead l s) g
-    where
-      ahead : at ≤ next_of t
-      ahead = let l = forward ground text at t et (λ q. let z : ◌≡◌ {A = ℕ} 5 20 = inv ek ∙ q in omega arith) in omega arith
-
-      open_on : (h : NamedPlace ground text at negative b) → from ground text (wants (named h.context negative b)) v at ≡ from ground text (wants (opened h.context negative b)) v (next_of t)
-      open_on h = on_kind ground text at t et 5 ek (λ z. omega arith) (wants (named h.context negative b)) v v _ refl (fault_none _ _ _ _ refl refl refl refl) (meets_none text (token_by 5 (part text t.place)) t.place v refl refl)
+  named_around ek =
+      record {
+        later = let l = forward ground text at t et (λ q. let z : ◌≡◌ {A = ℕ} 5 20 = inv ek ∙ q in omega arith) in omega arith;
+        kept = λ o. o;
+        tree = λ x. x;
+        place = λ h. record { context = h.context; negative = negative; name = b };
+        before = λ h. on_kind ground text at t et 5 ek (λ z. omega arith) (wants (named h.context negative b)) v v _ refl (fault_none _ _ _ _ refl refl refl refl) (meets_none text (token_by 5 (part text t.place)) t.place v refl refl);
+        behind = λ h x. refl;
+        spelling = λ x. refl;
+        meant = λ x. refl;
+      }
 
 -- ---- from a state on, a name and what follows it
 
-module _ {ground : Bool} {H : Type 0} (pre : H → State ground) (context : H → AtomContext ground) (mark : H → Mark) (over : Bool) (text : Bytes) (at : ℕ) (t : TokenRead) (et : t ≡ token_read ground text at) (negative : Bool) (v : List Place) (ek : t.kind ≡ 0) (steps : (h : H) → step (pre h) (token_by 0 (part text t.place)) ≡ some (record { mark = mark h; state = named (context h) negative (part text t.place) })) (sizes : (h : H) → too_many ground (mark h) ≡ over) (code : ℕ) (ec : code ≡ word_code t.place.len over) where
-  pub word_stops : (code ≡ 0 → ⊥) → (2 ≤ code) × ((h : H) → (from ground text (wants (pre h)) v at).answer ≡ refused code t.place)
-  unfolding step token_of too_big too_long
-  word_stops n = (omega (arith, word_four t.place.len over code ec n), λ h. over_kind ground text at t et 0 ek (λ z. omega arith) (wants (pre h)) v (record { mark = mark h; state = named (context h) negative (part text t.place) }) code (steps h) (inv (word_fault t.place.len over code ec _ _ _ _ refl (rw (part_length ground text at t et)) (sizes h) n)) n)
-
-  pub word_on : code ≡ 0 → (h : H) → from ground text (wants (pre h)) v at ≡ from ground text (wants (named (context h) negative (part text t.place))) v (next_of t)
-  unfolding step token_of too_big too_long too_many_variables token_number meet
-  word_on z h =
-      let k = word_kept t.place.len over code ec z in
-      on_kind ground text at t et 0 ek (λ q. omega arith) (wants (pre h)) v v (record { mark = mark h; state = named (context h) negative (part text t.place) }) (steps h) (fault_none _ _ _ _ refl (rw (part_length ground text at t et) k.0) (sizes h ∙ k.1) refl) (meets_none text (Token.name (part text t.place)) t.place v refl refl)
-
+module _ {ground : Bool} {H : Type 0} (pre : H → State ground) (context : H → AtomContext ground) (mark : H → Mark) (over : Bool) (text : Bytes) (at : ℕ) (t : TokenRead) (et : t ≡ token_read ground text at) (negative : Bool) (v : List Place) (ek : t.kind ≡ 0) (steps : (h : H) → step (pre h) (token_by 0 (part text t.place)) ≡ some (record { mark = mark h; state = named (context h) negative (part text t.place) })) (sizes : (h : H) → too_many ground (mark h) ≡ over) where
   -- the atom as a whole
   abbrev pub atom_from : Production ground
   atom_from = record { Context = H; Tree = AtomTree ground; Meant = Atom (Term Value); before = λ h. wants (pre h); behind = λ h x. wants (closed (context h) x); spelling = spell_atom inside; meant = atom_for }
 
-  pub word_refused : {v' : List Place} {S : Atom (Term Value) → Type 0} → (code ≡ 0 → ⊥) → Fills atom_from over text at v (halted code t.place) v' S
-  word_refused n = let s = word_stops n in stopped s.0 s.1
+  pub word_stops : (over ≡ false → most_bytes < t.place.len) → Stops atom_from text at v (record { refusal = OverSize; place = t.place })
+  unfolding step token_of too_big too_long
+  word_stops l = record { refuses = omega arith; answer = λ h. over_kind ground text at t et 0 ek (λ z. omega arith) (wants (pre h)) v (record { mark = mark h; state = named (context h) negative (part text t.place) }) 4 (steps h) (inv (word_fault _ _ _ _ t.place.len over refl (rw (part_length ground text at t et)) (sizes h) l)) (λ z. omega arith) }
 
-  pub word_forward : at ≤ next_of t
-  word_forward = let l = forward ground text at t et (λ q. let z : ◌≡◌ {A = ℕ} 0 20 = inv ek ∙ q in omega arith) in omega arith
+  module _ (l : t.place.len ≤ most_bytes) (o : over ≡ false) where
+    pub word_on : (h : H) → from ground text (wants (pre h)) v at ≡ from ground text (wants (named (context h) negative (part text t.place))) v (next_of t)
+    unfolding step token_of too_big too_long too_many_variables token_number meet
+    word_on h = on_kind ground text at t et 0 ek (λ q. omega arith) (wants (pre h)) v v (record { mark = mark h; state = named (context h) negative (part text t.place) }) (steps h) (fault_none _ _ _ _ refl (rw (part_length ground text at t et) (le-ltb most_bytes t.place.len l)) (sizes h ∙ o) refl) (meets_none text (Token.name (part text t.place)) t.place v refl refl)
 
-  pub word_goes : {r : Progress} {v' : List Place} {S T : Atom (Term Value) → Type 0} → ((h : H) → 13 ≤ (token_read ground text (next_of t)).kind → (token_read ground text (next_of t)).kind ≤ 19 → else_named (context h) negative (part text t.place) ≡ []) → code ≡ 0 → ((a : Atom (Term Value)) → next_of t ≤ r.place.start → S a → T a) → Fills (named_in ground text (next_of t) negative (part text t.place)) false text (next_of t) v r v' S → Fills atom_from over text at v r v' T
-  unfolding spell_atom
-  word_goes {T = T} alone z keeps g = fills_as atom_from over at (λ x. atom negative (part text t.place) x) (λ h. record { context = context h; alone = alone h }) (λ o. (word_kept t.place.len over code ec z).1) (word_on z) (λ h x. refl) spelling T word_forward (λ vs x l s. keeps _ l s) g
-    where
-      spelling : (vs : Names) (x : Tree ground) → met vs (spell_atom inside (atom negative (part text t.place) x)) ≡ met vs (spell_arguments x)
-      spelling vs x = met_append vs (spell_signed inside negative (part text t.place)) (spell_arguments x) ∙ rw (met_signed vs inside negative (part text t.place))
+    pub word_around : ((h : H) → 13 ≤ (token_read ground text (next_of t)).kind → (token_read ground text (next_of t)).kind ≤ 19 → else_named (context h) negative (part text t.place) ≡ []) → Around (named_in ground text (next_of t) negative (part text t.place)) atom_from (λ a. a) false over text (next_of t) at v v
+    unfolding spell_atom
+    word_around alone =
+        record {
+          later = let f = forward ground text at t et (λ q. let z : ◌≡◌ {A = ℕ} 0 20 = inv ek ∙ q in omega arith) in omega arith;
+          kept = λ z. o;
+          tree = λ x. atom negative (part text t.place) x;
+          place = λ h. record { context = context h; alone = alone h };
+          before = word_on;
+          behind = λ h x. refl;
+          spelling = λ x. met_append _ (spell_signed inside negative (part text t.place)) (spell_arguments x) ∙ rw (met_signed _ inside negative (part text t.place));
+          meant = λ x. refl;
+        }
 
 -- ---- behind a minus
 
@@ -117,9 +119,9 @@ module _ (ground : Bool) (text : Bytes) (at : ℕ) (t : TokenRead) (et : t ≡ t
   unfolding step moves try fire either token_of
   minus_step h = refl
 
-  pub minus_wrong : {v' : List Place} {S : Atom (Term Value) → Type 0} → (t.kind ≡ 0 → ⊥) → Fills (minus_in ground text at) false text at v (halted 2 t.place) v' S
+  pub minus_wrong : (t.kind ≡ 0 → ⊥) → Stops (minus_in ground text at) text at v (record { refusal = Misplaced; place = t.place })
   unfolding moves else_minus try_number fire_number either when finished
-  minus_wrong ne = stopped (omega arith) (λ h. wrong_token ground text at t et (wants (atom_minus h.context)) v (rw (ne_eqb t.kind 0 ne) (no_number h.context (rw et h.alone))) (λ z. refl))
+  minus_wrong ne = record { refuses = omega arith; answer = λ h. wrong_token ground text at t et (wants (atom_minus h.context)) v (rw (ne_eqb t.kind 0 ne) (no_number h.context (rw et h.alone))) (λ z. refl) }
     where
       other : (a : AtomContext ground) → (t.kind ≡ 4 → ⊥) → try_number (else_minus a) t.kind (token_here ground text at t et) ≡ none
       other (head_behind p) n = refl
@@ -134,14 +136,14 @@ module _ (ground : Bool) (text : Bytes) (at : ℕ) (t : TokenRead) (et : t ≡ t
           go true e = rw (h (eqb-true t.kind 4 e))
           go false e = other a (eqb-false t.kind 4 e)
 
-  module _ (ek : t.kind ≡ 0) (code : ℕ) (ec : code ≡ word_code t.place.len false) where
-    pub minus_stops : {v' : List Place} {S : Atom (Term Value) → Type 0} → (code ≡ 0 → ⊥) → Fills (minus_in ground text at) false text at v (halted code t.place) v' S
+  module _ (ek : t.kind ≡ 0) where
+    pub minus_stops : most_bytes < t.place.len → Stops (minus_in ground text at) text at v (record { refusal = OverSize; place = t.place })
     unfolding too_many
-    minus_stops n = word_refused (λ (h : MinusPlace ground text at). atom_minus h.context) (λ h. h.context) (λ h. inside) false text at t et true v ek minus_step (λ h. refl) code ec n
+    minus_stops l = word_stops (λ (h : MinusPlace ground text at). atom_minus h.context) (λ h. h.context) (λ h. inside) false text at t et true v ek minus_step (λ h. refl) (λ o. l)
 
-    pub minus_goes : {r : Progress} {v' : List Place} {S T : Atom (Term Value) → Type 0} → code ≡ 0 → ((a : Atom (Term Value)) → next_of t ≤ r.place.start → S a → T a) → Fills (named_in ground text (next_of t) true (part text t.place)) false text (next_of t) v r v' S → Fills (minus_in ground text at) false text at v r v' T
+    pub minus_around : t.place.len ≤ most_bytes → Around (named_in ground text (next_of t) true (part text t.place)) (minus_in ground text at) (λ a. a) false false text (next_of t) at v v
     unfolding too_many else_named
-    minus_goes z keeps g = word_goes (λ (h : MinusPlace ground text at). atom_minus h.context) (λ h. h.context) (λ h. inside) false text at t et true v ek minus_step (λ h. refl) code ec (λ h l k. alone h.context) z keeps g
+    minus_around l = word_around (λ (h : MinusPlace ground text at). atom_minus h.context) (λ h. h.context) (λ h. inside) false text at t et true v ek minus_step (λ h. refl) l refl (λ h m k. alone h.context)
       where
         alone : (a : AtomContext ground) → else_named a true (part text t.place) ≡ []
         alone (head_behind p) = refl
@@ -170,17 +172,17 @@ module _ (ground over : Bool) (text : Bytes) (at : ℕ) (t : TokenRead) (et : t 
   sizes (also u p hs s) = s
   sizes (negated c o) = inv o
 
-  module _ (ek : t.kind ≡ 0) (code : ℕ) (ec : code ≡ word_code t.place.len over) where
+  module _ (ek : t.kind ≡ 0) where
     name_step : (h : AtomPlace ground over text at) → step (before h) (token_by 0 (part text t.place)) ≡ some (record { mark = mark_of h; state = named (atom_context h) false (part text t.place) })
     unfolding step moves try fire either token_of
     name_step h = refl
 
-    pub atom_stops : {v' : List Place} {S : Atom (Term Value) → Type 0} → (code ≡ 0 → ⊥) → Fills (atom_in ground over text at) over text at v (halted code t.place) v' S
-    atom_stops n = word_refused before atom_context mark_of over text at t et false v ek name_step sizes code ec n
+    pub atom_stops : (over ≡ false → most_bytes < t.place.len) → Stops (atom_in ground over text at) text at v (record { refusal = OverSize; place = t.place })
+    atom_stops l = word_stops before atom_context mark_of over text at t et false v ek name_step sizes l
 
-    pub atom_goes : {r : Progress} {v' : List Place} {S T : Atom (Term Value) → Type 0} → code ≡ 0 → ((a : Atom (Term Value)) → next_of t ≤ r.place.start → S a → T a) → Fills (named_in ground text (next_of t) false (part text t.place)) false text (next_of t) v r v' S → Fills (atom_in ground over text at) over text at v r v' T
+    pub atom_around : t.place.len ≤ most_bytes → over ≡ false → Around (named_in ground text (next_of t) false (part text t.place)) (atom_in ground over text at) (λ a. a) false over text (next_of t) at v v
     unfolding else_named atom_context
-    atom_goes z keeps g = word_goes before atom_context mark_of over text at t et false v ek name_step sizes code ec (λ h l k. alone h) z keeps g
+    atom_around l o = word_around before atom_context mark_of over text at t et false v ek name_step sizes l o (λ h m k. alone h)
       where
         alone : (h : AtomPlace ground over text at) → else_named (atom_context h) false (part text t.place) ≡ []
         alone (head p s n e) = refl
@@ -192,28 +194,32 @@ module _ (ground over : Bool) (text : Bytes) (at : ℕ) (t : TokenRead) (et : t 
     unfolding step moves try fire either when token_of symbol_number
     signed_step h = refl
 
-    pub signed_over : {v' : List Place} {S : Atom (Term Value) → Type 0} → over ≡ true → Fills (atom_in ground over text at) over text at v (halted 4 t.place) v' S
+    pub signed_over : over ≡ true → Stops (atom_in ground over text at) text at v (record { refusal = OverSize; place = t.place })
     unfolding step token_of too_big
-    signed_over o = stopped (omega arith) (λ h. over_kind ground text at t et 10 ek (λ z. omega arith) (wants (before h)) v (record { mark = mark_of h; state = atom_minus (atom_context h) }) 4 (signed_step h) (inv (fault_many _ _ _ _ refl (sizes h ∙ o))) (λ z. omega arith))
+    signed_over o = record { refuses = omega arith; answer = λ h. over_kind ground text at t et 10 ek (λ z. omega arith) (wants (before h)) v (record { mark = mark_of h; state = atom_minus (atom_context h) }) 4 (signed_step h) (inv (fault_many _ _ _ _ refl (sizes h ∙ o))) (λ z. omega arith) }
 
-    pub signed_goes : {r : Progress} {v' : List Place} {S T : Atom (Term Value) → Type 0} → over ≡ false → ((a : Atom (Term Value)) → at ≤ next_of t → next_of t ≤ r.place.start → S a → T a) → Fills (minus_in ground text (next_of t)) false text (next_of t) v r v' S → Fills (atom_in ground over text at) over text at v r v' T
+    pub signed_around : over ≡ false → Around (minus_in ground text (next_of t)) (atom_in ground over text at) (λ a. a) false over text (next_of t) at v v
     unfolding step token_of too_big too_long too_many_variables is_underscore meet meet_symbol token_number symbol_number else_minus atom_context
-    signed_goes {T = T} o keeps g = fills_as (atom_in ground over text at) over at (λ x. x) (λ h. record { context = atom_context h; alone = λ k. alone h }) (λ z. o) on_minus (λ h x. refl) (λ vs x. refl) T ahead (λ vs x l s. keeps _ ahead l s) g
+    signed_around o =
+        record {
+          later = let l = forward ground text at t et (λ q. let z : ◌≡◌ {A = ℕ} 10 20 = inv ek ∙ q in omega arith) in omega arith;
+          kept = λ z. o;
+          tree = λ x. x;
+          place = λ h. record { context = atom_context h; alone = λ k. alone h };
+          before = λ h. on_kind ground text at t et 10 ek (λ z. omega arith) (wants (before h)) v v (record { mark = mark_of h; state = atom_minus (atom_context h) }) (signed_step h) (fault_none _ _ _ _ refl refl (sizes h ∙ o) refl) (meets_none text (token_by 10 (part text t.place)) t.place v refl refl);
+          behind = λ h x. refl;
+          spelling = λ x. refl;
+          meant = λ x. refl;
+        }
       where
-        ahead : at ≤ next_of t
-        ahead = let l = forward ground text at t et (λ q. let z : ◌≡◌ {A = ℕ} 10 20 = inv ek ∙ q in omega arith) in omega arith
-
-        on_minus : (h : AtomPlace ground over text at) → from ground text (wants (before h)) v at ≡ from ground text (wants (atom_minus (atom_context h))) v (next_of t)
-        on_minus h = on_kind ground text at t et 10 ek (λ z. omega arith) (wants (before h)) v v (record { mark = mark_of h; state = atom_minus (atom_context h) }) (signed_step h) (fault_none _ _ _ _ refl refl (sizes h ∙ o) refl) (meets_none text (token_by 10 (part text t.place)) t.place v refl refl)
-
         alone : (h : AtomPlace ground over text at) → else_minus (atom_context h) ≡ []
         alone (head p s n e) = refl
         alone (also u p hs s) = refl
         alone (negated c o') = refl
 
-  pub atom_wrong : {v' : List Place} {S : Atom (Term Value) → Type 0} → (t.kind ≡ 0 → ⊥) → (t.kind ≡ 10 → ⊥) → Fills (atom_in ground over text at) over text at v (halted 2 t.place) v' S
+  pub atom_wrong : (t.kind ≡ 0 → ⊥) → (t.kind ≡ 10 → ⊥) → Stops (atom_in ground over text at) text at v (record { refusal = Misplaced; place = t.place })
   unfolding moves else_wanted try_number fire_number either when symbol_number finished finished_atom atom_context
-  atom_wrong a b = stopped (omega arith) (λ h. wrong_token ground text at t et (wants (before h)) v (rw (ne_eqb t.kind 0 a, ne_eqb t.kind 10 b) (nothing h)) (ended h))
+  atom_wrong a b = record { refuses = omega arith; answer = λ h. wrong_token ground text at t et (wants (before h)) v (rw (ne_eqb t.kind 0 a, ne_eqb t.kind 10 b) (nothing h)) (ended h) }
     where
       nothing : (h : AtomPlace ground over text at) → try_number (else_wanted (atom_context h)) t.kind (token_here ground text at t et) ≡ none
       nothing (head p s n e) = no_if ground p _ t.kind (λ z. n (rw et at z))

@@ -8,6 +8,8 @@ use native.Mathlib.Omega.{arith}
 use lib.Dec.{eqb, leb}
 use borrow.Author.Tests.{ne_eqb, eqb-true, eqb-false}
 use Rattle.texts.specs.declared.place.Place.{Place}
+use Rattle.texts.specs.declared.refusal.Refusal.TheVariants.{Misplaced}
+use Rattle.texts.specs.declared.refusal.Refused.{Refused}
 use Rattle.texts.specs.Parts.{part}
 use Rattle.tokens.specs.Token.{next_token}
 use Rattle.lexis.proofs.KindNumber.{kind_at_number}
@@ -27,12 +29,12 @@ use Rattle.grammar.specs.Machine.{after_literal, after_term, moves, finished}
 use Rattle.grammar.specs.Abstraction.{term_for, comparison_for, literal_for}
 use Rattle.grammar.proofs.Numbers.{sign_of, fire_number, try_number, try_by_number, comparison_by_number}
 use Rattle.grammar.proofs.Variables.{met_append}
-use Rattle.syntax.specs.declared.token.Progress.{Progress}
 use Rattle.syntax.specs.declared.token.TokenRead.{TokenRead}
 use Rattle.syntax.specs.Text.{token_of, token_read, next_of}
 use Rattle.syntax.specs.Variables.{variables_of, Fits}
 use Rattle.syntax.specs.Ahead.{Wants, wants, from}
-use Rattle.syntax.specs.Fills.{Production, going, halted, Fills, read, stopped}
+use Rattle.syntax.specs.Fills.{Production, Goes, Stops}
+use Rattle.syntax.proofs.Readings.{Around, stops_at}
 use Rattle.syntax.specs.Terms.{TermPlace, term_in}
 use Rattle.syntax.specs.Builtins.{comparison_of, operation_of, behind_literal, Tail, nothing, operand, with_tail, spell_tail, tail_for, TailPlace, tail_in, RightSide, SidePlace, spell_side, side_for, side_in}
 use Rattle.syntax.proofs.Tokens.{token_by, token_here, number_here, forward}
@@ -63,36 +65,25 @@ module _ (text : Bytes) (at : ℕ) (t : TokenRead) (et : t ≡ token_read false 
       go false p true q = let k = eqb-true t.kind 11 q in on_kind false text at t et 11 k (λ z. omega arith) (wants (term_read (right_in h.body h.left h.sign) h.right)) v v _ refl (fault_none _ _ _ _ refl refl refl refl) (meets_none text (token_by 11 (part text t.place)) t.place v refl refl) ∙ rw (p, q)
       go false p false q = let k : t.kind ≡ 12 = omega (arith, eqb-false t.kind 10 p, eqb-false t.kind 11 q) in on_kind false text at t et 12 k (λ z. omega arith) (wants (term_read (right_in h.body h.left h.sign) h.right)) v v _ refl (fault_none _ _ _ _ refl refl refl refl) (meets_none text (token_by 12 (part text t.place)) t.place v refl refl) ∙ rw (p, q)
 
-pub tail_none : (text : Bytes) (at : Place) → Stands text at → (t : TokenRead) → t ≡ token_read false text at.start → (left : Term Value) (c : Comparison) (right : Term Value) (v : List Place) {S : Literal Value → Type 0} → Fits v → (t.kind < 10) ⊎ (12 < t.kind) → S (builtin c left (plain right)) → Fills (tail_in left c right) false text at.start v (going at) v S
+pub tail_none : (text : Bytes) (at : Place) → Stands text at → (t : TokenRead) → t ≡ token_read false text at.start → (left : Term Value) (c : Comparison) (right : Term Value) (v : List Place) {S : Literal Value → Type 0} → Fits v → (t.kind < 10) ⊎ (12 < t.kind) → S (builtin c left (plain right)) → Goes (tail_in left c right) false text at.start v at v S
 unfolding tail_for spell_tail met
-tail_none text at stands t et left c right v fits out s = read refl (omega arith) stands refl fits nothing s refl (no_operation_on text at.start t et v out)
+tail_none text at stands t et left c right v fits out s = record { forward = omega arith; stands = stands; kept = refl; fits = fits; tree = nothing; means = s; names = refl; ahead = no_operation_on text at.start t et v out }
 
 module _ (text : Bytes) (at : ℕ) (t : TokenRead) (et : t ≡ token_read false text at) (left : Term Value) (c : Comparison) (right : Term Value) (v : List Place) where
-  module _ (low : 10 ≤ t.kind) (high : t.kind ≤ 12) {w : Progress} {v₁ : List Place} {S₁ : Term Value → Type 0} (g : Fills (term_in false false) false text (next_of t) v w v₁ S₁) where
-    place : TailPlace → TermPlace false false
-    unfolding too_many term_mark
-    place h = record { context = operand_in h.body h.left h.sign h.right (operation_of t.kind); size = refl }
-
-    pub tail_stops : {v' : List Place} {S : Literal Value → Type 0} → (w.code ≡ 0 → ⊥) → Fills (tail_in left c right) false text at v (halted w.code w.place) v' S
-    unfolding place
-    tail_stops {v'} {S} ne = go g
-      where
-        go : Fills (term_in false false) false text (next_of t) v w v₁ S₁ → Fills (tail_in left c right) false text at v (halted w.code w.place) v' S
-        go (read z b n o f x s m q) = absurd (ne z)
-        go (stopped z q) = stopped z (λ h. ap (λ y. y.answer) (operation_on text at t et v low high h) ∙ q (place h))
-
-    pub tail_goes : {S : Literal Value → Type 0} → w.code ≡ 0 → ((a : Term Value) → at ≤ next_of t → next_of t ≤ w.place.start → S₁ a → S (builtin c left (Side.computed right (operation_of t.kind) a))) → Fills (tail_in left c right) false text at v (going w.place) v₁ S
-    unfolding place moves after_term with_tail tail_for spell_tail met finished
-    tail_goes {S} e stands = go g
-      where
-        on_token_forward : at ≤ next_of t
-        on_token_forward = let l = forward false text at t et (λ z. omega arith) in omega arith
-
-        go : Fills (term_in false false) false text (next_of t) v w v₁ S₁ → Fills (tail_in left c right) false text at v (going w.place) v₁ S
-        go (stopped z q) = absurd (omega arith)
-        go (read z b n o f x s m q) =
-            let vs : met (variables_of text v) (spell_tail (operand (operation_of t.kind) x)) ≡ met (variables_of text v) (spell_term inside x) = ap (λ vs. met vs (spell_term inside x)) (no_variable (variables_of text v) (operation_of t.kind)) in
-            read refl (let l = on_token_forward in omega arith) n refl f (operand (operation_of t.kind) x) (stands _ on_token_forward b s) (vs ∙ m) (λ h. operation_on text at t et v low high h ∙ q (place h))
+  -- an operation, and its operand behind it
+  pub tail_around : 10 ≤ t.kind → t.kind ≤ 12 → Around (term_in false false) (tail_in left c right) (λ a. builtin c left (Side.computed right (operation_of t.kind) a)) false false text (next_of t) at v v
+  unfolding moves after_term with_tail tail_for spell_tail met finished too_many term_mark
+  tail_around low high =
+      record {
+        later = let l = forward false text at t et (λ z. omega arith) in omega arith;
+        kept = λ o. o;
+        tree = operand (operation_of t.kind);
+        place = λ h. record { context = operand_in h.body h.left h.sign h.right (operation_of t.kind); size = refl };
+        before = operation_on text at t et v low high;
+        behind = λ h x. refl;
+        spelling = λ x. ap (λ vs. met vs (spell_term inside x)) (no_variable (variables_of text v) (operation_of t.kind));
+        meant = λ x. ap (λ vs. builtin c left (Side.computed right (operation_of t.kind) (term_for vs x))) refl;
+      }
 
 -- ---- behind the left term
 
@@ -122,37 +113,32 @@ module _ (text : Bytes) (at : ℕ) (t : TokenRead) (et : t ≡ token_read false 
     sign_on h = on_token false text at t et (wants (term_read (left_in h.body) h.left)) v v (record { mark = inside; state = term_wanted (right_in h.body h.left (sign_of u)) }) (λ z. omega (arith, range.0, range.1)) (try_by_number (moves (term_read (left_in h.body) h.left)) u t.kind number_is ∙ rw e) (fault_none _ _ _ _ (ap too_big is_comparison) (ap too_long is_comparison) refl (ap (too_many_variables (variables_of text v)) is_comparison)) (meets_none text u t.place v (ne_eqb (token_number u) 8 (λ z. omega (arith, number_is, range.0))) (ap (meet (variables_of text v)) is_comparison))
 
 module _ (text : Bytes) (at : ℕ) (t : TokenRead) (et : t ≡ token_read false text at) (left : Term Value) (v : List Place) where
-  pub side_wrong : {v' : List Place} {S : Literal Value → Type 0} → (leb 13 t.kind && leb t.kind 19) ≡ false → Fills (side_in left) false text at v (halted 2 t.place) v' S
-  side_wrong e = stopped (omega arith) (no_sign_on text at t et v e)
+  pub side_wrong : (leb 13 t.kind && leb t.kind 19) ≡ false → Stops (side_in left) text at v (record { refusal = Misplaced; place = t.place })
+  side_wrong e = record { refuses = omega arith; answer = no_sign_on text at t et v e }
 
-  module _ (e : (leb 13 t.kind && leb t.kind 19) ≡ true) {w : Progress} {v₁ : List Place} {S₁ : Term Value → Type 0} (g : Fills (term_in false false) false text (next_of t) v w v₁ S₁) where
+  module _ (e : (leb 13 t.kind && leb t.kind 19) ≡ true) where
     right_place : SidePlace → TermPlace false false
     unfolding too_many term_mark
     right_place h = record { context = right_in h.body h.left (sign_of (u text at t et v)); size = refl }
 
-    pub side_stops : {v' : List Place} {S : Literal Value → Type 0} → (w.code ≡ 0 → ⊥) → Fills (side_in left) false text at v (halted w.code w.place) v' S
+    pub side_stops : {r : Refused} → Stops (term_in false false) text (next_of t) v r → Stops (side_in left) text at v r
     unfolding right_place
-    side_stops {v'} {S} ne = go g
-      where
-        go : Fills (term_in false false) false text (next_of t) v w v₁ S₁ → Fills (side_in left) false text at v (halted w.code w.place) v' S
-        go (read z b n o f x s m q) = absurd (ne z)
-        go (stopped z q) = stopped z (λ h. ap (λ y. y.answer) (sign_on text at t et v e h) ∙ q (right_place h))
+    side_stops = stops_at right_place (λ h. sign_on text at t et v e h)
 
-    -- the right term, and what stands behind it
-    pub side_goes : {r : Progress} {v' : List Place} {T : Term Value → Literal Value → Type 0} {S : Literal Value → Type 0} → w.code ≡ 0 → ((a : Term Value) → S₁ a → Fills (tail_in left (comparison_of t.kind) a) false text w.place.start v₁ r v' (T a)) → ((a : Term Value) (l : Literal Value) → at ≤ next_of t → next_of t ≤ w.place.start → w.place.start ≤ r.place.start → S₁ a → T a l → S l) → Fills (side_in left) false text at v r v' S
+    -- what stands behind the right term
+    pub side_around : {next : Place} {v₁ : List Place} {S : Term Value → Type 0} (g : Goes (term_in false false) false text (next_of t) v next v₁ S) → Around (tail_in left (comparison_of t.kind) (term_for (variables_of text v) g.tree)) (side_in left) (λ l. l) false false text next.start at v₁ v
     unfolding right_place met meet
-    side_goes {r} {v'} {T} {S} z tails stands = go g
-      where
-        ahead : at ≤ next_of t
-        ahead = let k = range text at t et v e in let l = forward false text at t et (λ q. omega (arith, k.0, k.1)) in omega arith
-
-        both : (x : TermTree false) → next_of t ≤ w.place.start → S₁ (term_for (variables_of text v) x) → met (variables_of text v) (spell_term inside x) ≡ variables_of text v₁ → ((h : TermPlace false false) → from false text (wants (term_wanted h.context)) v (next_of t) ≡ from false text (wants (term_read h.context x)) v₁ w.place.start) → Fills (tail_in left (comparison_of t.kind) (term_for (variables_of text v) x)) false text w.place.start v₁ r v' (T (term_for (variables_of text v) x)) → Fills (side_in left) false text at v r v' S
-        both x b s m q (read c' b' n' o' f' y s' m' q') = read c' (let l = ahead in omega arith) n' refl f' (record { sign = sign_of (u text at t et v); right = x; tail = y }) (rw (means text at t et v e, m) (stands _ _ ahead b b' s s')) (met_append (variables_of text v) (spell_term inside x) (spell_tail y) ∙ rw m m') (λ h. sign_on text at t et v e h ∙ q (right_place h) ∙ q' (record { body = h.body; left = h.left; sign = sign_of (u text at t et v); right = x }))
-        both x b s m q (stopped c' q') = stopped c' (λ h. ap (λ a. a.answer) (sign_on text at t et v e h ∙ q (right_place h)) ∙ q' (record { body = h.body; left = h.left; sign = sign_of (u text at t et v); right = x }))
-
-        go : Fills (term_in false false) false text (next_of t) v w v₁ S₁ → Fills (side_in left) false text at v r v' S
-        go (stopped c q) = absurd (omega arith)
-        go (read c b n o f x s m q) = both x b s m q (tails _ s)
+    side_around {next} {v₁} g =
+        record {
+          later = let k = range text at t et v e in let l = forward false text at t et (λ q. omega (arith, k.0, k.1)) in let f = g.forward in omega arith;
+          kept = λ o. o;
+          tree = λ y. record { sign = sign_of (u text at t et v); right = g.tree; tail = y };
+          place = λ h. record { body = h.body; left = h.left; sign = sign_of (u text at t et v); right = g.tree };
+          before = λ h. sign_on text at t et v e h ∙ g.ahead (right_place h);
+          behind = λ h y. refl;
+          spelling = λ y. met_append (variables_of text v) (spell_term inside g.tree) (spell_tail y) ∙ rw g.names;
+          meant = λ y. rw (means text at t et v e, g.names);
+        }
 
 -- ---- the left term, and then the side
 
@@ -180,10 +166,16 @@ module _ {H : Type 0} (pre : H → Wants false) (body : H → BodyContext false)
   abbrev pub literal_from : Production false
   literal_from = record { Context = H; Tree = Tree false; Meant = Literal Value; before = pre; behind = λ h x. behind_literal (body h) x; spelling = spell_literal inside; meant = literal_for }
 
-  pub left_then_side : {w r : Progress} {v₁ v' : List Place} {S₁ : Term Value → Type 0} {T : Term Value → Literal Value → Type 0} {S : Literal Value → Type 0} → Fills left_from over text at v w v₁ S₁ → ((w.code ≡ 0 → ⊥) → (r.code ≡ w.code) × (r.place ≡ w.place)) → (w.code ≡ 0 → (a : Term Value) → S₁ a → Fills (side_in a) false text w.place.start v₁ r v' (T a)) → ((a : Term Value) (l : Literal Value) → at ≤ w.place.start → w.place.start ≤ r.place.start → S₁ a → T a l → S l) → Fills literal_from over text at v r v' S
-  left_then_side (stopped c q) refuses sides stands = let e = refuses (λ z. omega arith) in stopped (rw e.0 c) (λ h. rw (e.0, e.1) (q h))
-  left_then_side {w} {r} {v₁} {v'} {S₁} {T} {S} (read c b n o f x s m q) refuses sides stands = go (sides c _ s)
-    where
-      go : Fills (side_in (term_for (variables_of text v) x)) false text w.place.start v₁ r v' (T (term_for (variables_of text v) x)) → Fills literal_from over text at v r v' S
-      go (read c' b' n' o' f' y s' m' q') = read c' (omega arith) n' o f' (with_tail x y.sign y.right y.tail) (rw (side_literal (variables_of text v) x y, m) (stands _ _ b b' s s')) (side_spelling (variables_of text v) x y ∙ rw m m') (λ h. q h ∙ q' (record { body = body h; left = x }))
-      go (stopped c' q') = stopped c' (λ h. ap (λ a. a.answer) (q h) ∙ q' (record { body = body h; left = x }))
+  -- the side behind the left term
+  pub left_around : {next : Place} {v₁ : List Place} {S : Term Value → Type 0} (g : Goes left_from over text at v next v₁ S) → Around (side_in (term_for (variables_of text v) g.tree)) literal_from (λ l. l) false over text next.start at v₁ v
+  left_around {next} {v₁} g =
+      record {
+        later = g.forward;
+        kept = λ o. g.kept;
+        tree = λ y. with_tail g.tree y.sign y.right y.tail;
+        place = λ h. record { body = body h; left = g.tree };
+        before = g.ahead;
+        behind = λ h y. refl;
+        spelling = λ y. side_spelling (variables_of text v) g.tree y ∙ rw g.names;
+        meant = λ y. side_literal (variables_of text v) g.tree y ∙ rw g.names;
+      }

@@ -3,7 +3,7 @@ use mathlib.Core.Path.{◌≡◌, refl, sym as inv, ap, ◌∙◌}
 use mathlib.Core.Bool.{Bool, true, false}
 use mathlib.Core.Option.{some}
 use mathlib.Core.List.{List, [], ◌∷◌}
-use Prim.Native.Nat.{ℕ, suc, ◌≤◌}
+use Prim.Native.Nat.{ℕ, suc}
 use native.Mathlib.Omega.{arith}
 use lib.Dec.{leb}
 use lib.ListN.{length, length-append}
@@ -23,12 +23,11 @@ use Rattle.grammar.specs.Moves.{free_moves, symbol_number, token_number, when, f
 use Rattle.grammar.specs.Machine.{new_body, after_heads, after_atom, moves, finished}
 use Rattle.grammar.proofs.Numbers.{fire_number, try_number}
 use Rattle.grammar.proofs.Variables.{met_append, met_atom}
-use Rattle.syntax.specs.declared.token.Progress.{Progress}
 use Rattle.syntax.specs.declared.token.TokenRead.{TokenRead}
 use Rattle.syntax.specs.Text.{token_of, placed_from, token_read, next_of}
 use Rattle.syntax.specs.Variables.{variables_of}
 use Rattle.syntax.specs.Ahead.{wants, from}
-use Rattle.syntax.specs.Fills.{Fills, read, stopped}
+use Rattle.syntax.specs.Fills.{Goes}
 use Rattle.syntax.specs.Atoms.{AtomPlace, atom_context, atom_in}
 use Rattle.syntax.specs.Rules.{behind_rules}
 use Rattle.syntax.specs.Heads.{behind_heads, heads_in}
@@ -36,6 +35,7 @@ use Rattle.syntax.proofs.Tokens.{token_by, forward}
 use Rattle.syntax.proofs.Steps.{same_walk, meets_none, on_kind, wrong_token, dot_token}
 use Rattle.syntax.proofs.Sizes.{fault_none}
 use Rattle.syntax.proofs.Lists.{too_many_next}
+use Rattle.syntax.proofs.Readings.{Around}
 
 module _ {ground : Bool} where
   -- as many atoms as heads
@@ -91,10 +91,9 @@ module _ (text : Bytes) (at : ℕ) (t : TokenRead) (et : t ≡ token_read false 
 -- ---- the heads of a rule
 
 -- where an atom is read as the first
-pub first_head : {ground over : Bool} {text : Bytes} {at : ℕ} {r : Progress} {v' : List Place} {S : Atom (Term Value) → Type 0} {T : List (Atom (Term Value)) → Type 0} → ((a : Atom (Term Value)) → S a → T (a ∷ [])) → Fills (atom_in ground over text at) over text at [] r v' S → Fills (heads_in ground over text at) over text at [] r v' T
+pub first_around : (ground over : Bool) (text : Bytes) (at : ℕ) → Around (atom_in ground over text at) (heads_in ground over text at) (λ a. a ∷ []) over over text at at [] []
 unfolding atom_context variables_of heads_for spell_heads
-first_head {ground} {text = text} {r = r} {v' = v'} stands (read c b n o f x s m w) = read c b n o f (Heads.head x) (stands _ s) m (λ h. w (AtomPlace.head h.rules h.size h.no_if h.no_end) ∙ ap (λ y. from ground text y v' r.place.start) (behind_first h.rules x))
-first_head stands (stopped c w) = stopped c (λ h. w (AtomPlace.head h.rules h.size h.no_if h.no_end))
+first_around ground over text at = record { later = omega arith; kept = λ o. o; tree = Heads.head; place = λ h. AtomPlace.head h.rules h.size h.no_if h.no_end; before = λ h. refl; behind = λ h x. behind_first h.rules x; spelling = λ x. refl; meant = λ x. refl }
 
 -- the variables met in one head more
 met_also : (vs : Names) (u : Unit {0}) (hs : Heads false) (x : AtomTree false) → met vs (spell_heads inside (Heads.also u hs x)) ≡ met (met vs (spell_heads inside hs)) (spell_atom inside x)
@@ -102,16 +101,16 @@ unfolding spell_heads met meet meet_symbol
 met_also vs u hs x = met_append vs (spell_heads inside hs) _ ∙ met_atom _ inside (met vs (spell_heads inside hs)) x
 
 -- where n are read, and behind them and `|` an atom: one more, or a refusal. The next is one too many where n are as many as there may be
-module _ {over : Bool} {text : Bytes} {at : ℕ} {r : Progress} {v : List Place} {S : List (Atom (Term Value)) → Type 0} (n : ℕ) (many : (ms : List (Atom (Term Value))) → S ms → length ms ≡ n) (t : TokenRead) (et : t ≡ token_read false text r.place.start) (ek : t.kind ≡ 23) where
-  pub also_head : {r' : Progress} {v' : List Place} {S' : Atom (Term Value) → Type 0} {T : List (Atom (Term Value)) → Type 0} → ((ms : List (Atom (Term Value))) (a : Atom (Term Value)) → at ≤ r.place.start → next_of t ≤ r'.place.start → S ms → S' a → T (ms ▹ a)) → r.code ≡ 0 → Fills (heads_in false over text at) over text at [] r v S → Fills (atom_in false (leb most_heads n) text (next_of t)) (leb most_heads n) text (next_of t) v r' v' S' → Fills (heads_in false over text at) over text at [] r' v' T
-  unfolding atom_context variables_of heads_for
-  also_head stands z (stopped c w) g = absurd (omega arith)
-  also_head {r'} {v'} stands z (read c b i o f hs s m w) (stopped c' w') = stopped c' (λ h. ap (λ y. y.answer) ((w h ∙ heads_bar text r.place.start t et v ek h.rules hs)) ∙ w' (AtomPlace.also tt h.rules hs (next_head hs n (many _ s))))
-  also_head {r'} {v'} {S'} {T} stands z (read c b i o f hs s m w) (read c' b' i' o' f' x s' m' w') =
-      read c' later i' o f' (Heads.also tt hs x) meant (met_also (variables_of text []) tt hs x ∙ rw m m') (λ h. w h ∙ heads_bar text r.place.start t et v ek h.rules hs ∙ w' (AtomPlace.also tt h.rules hs (next_head hs n (many _ s))) ∙ ap (λ y. from false text y v' r'.place.start) (behind_also tt h.rules hs x))
-    where
-      later : at ≤ r'.place.start
-      later = let l = forward false text r.place.start t et (λ q. let y : ◌≡◌ {A = ℕ} 23 20 = inv ek ∙ q in omega arith) in omega arith
-
-      meant : T (heads_for (Heads.also tt hs x))
-      meant = rw m (stands _ _ b b' s s')
+pub also_around : {over : Bool} {text : Bytes} {at : ℕ} {next : Place} {v : List Place} {S : List (Atom (Term Value)) → Type 0} (n : ℕ) → ((ms : List (Atom (Term Value))) → S ms → length ms ≡ n) → (t : TokenRead) → t ≡ token_read false text next.start → t.kind ≡ 23 → (g : Goes (heads_in false over text at) over text at [] next v S) → Around (atom_in false (leb most_heads n) text (next_of t)) (heads_in false over text at) (λ a. heads_for g.tree ▹ a) (leb most_heads n) over text (next_of t) at v []
+unfolding atom_context variables_of heads_for
+also_around {text = text} {next = next} {v = v} n many t et ek g =
+    record {
+      later = let l = forward false text next.start t et (λ q. let y : ◌≡◌ {A = ℕ} 23 20 = inv ek ∙ q in omega arith) in let f = g.forward in omega arith;
+      kept = λ o. g.kept;
+      tree = Heads.also tt g.tree;
+      place = λ h. AtomPlace.also tt h.rules g.tree (next_head g.tree n (many _ g.means));
+      before = λ h. g.ahead h ∙ heads_bar text next.start t et v ek h.rules g.tree;
+      behind = λ h x. behind_also tt h.rules g.tree x;
+      spelling = λ x. met_also (variables_of text []) tt g.tree x ∙ rw g.names;
+      meant = λ x. rw g.names;
+    }

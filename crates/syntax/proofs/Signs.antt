@@ -1,10 +1,10 @@
 -- Comparisons and operations by the numbers of their kinds.
 use mathlib.Core.Path.{◌≡◌, refl}
 use mathlib.Core.Bool.{Bool, true, false, ◌&&◌, false≢true}
-use Prim.Native.Nat.{ℕ, ◌≤◌, ◌<◌}
+use Prim.Native.Nat.{ℕ, ◌≤◌}
 use native.Mathlib.Omega.{arith}
 use lib.Dec.{leb}
-use borrow.Author.Tests.{leb-true, le-leb, lt-leb}
+use borrow.Author.Tests.{leb-true, le-leb}
 use Rattle.lexis.specs.declared.kind.Kind.{Kind}
 use Rattle.lexis.specs.declared.kind.Kind.TheVariants.{Name, Not, Variable, Anonymous, Number, Open, Close, Comma, Dot, If, Minus, Plus, Times, Equal, Unequal, AlsoUnequal, Less, AtMost, Greater, AtLeast, End, Stray, String, Bar}
 use Rattle.lexis.specs.Kind.{kind_number}
@@ -63,9 +63,3 @@ unfolding meet meet_symbol spell_operation
 no_variable vs plus = refl
 no_variable vs minus = refl
 no_variable vs times = refl
-
-pub no_sign_below : (k : ℕ) → k < 13 → false ≡ (leb 13 k && leb k 19)
-no_sign_below k h = rw (lt-leb 13 k h)
-
-pub sign_from : (k : ℕ) → 13 ≤ k → leb k 19 ≡ (leb 13 k && leb k 19)
-sign_from k h = rw (le-leb 13 k h)

@@ -1,5 +1,5 @@
 -- The number of refusal by the sizes that are passed.
-use mathlib.Core.Path.{◌≡◌, refl, sym as inv, ◌∙◌}
+use mathlib.Core.Path.{◌≡◌, refl, ◌∙◌}
 use mathlib.Core.Bool.{Bool, true, false, cond, ◌||◌}
 use Prim.Native.Nat.{ℕ, ◌≤◌, ◌<◌}
 use native.Mathlib.Omega.{arith}
@@ -8,10 +8,9 @@ use borrow.Author.Tests.{leb-true, leb-false, lt-ltb, le-ltb}
 use Rattle.lexis.specs.Number.{capped}
 use Rattle.reading.specs.Reading.{Marked}
 use Rattle.grammar.specs.Tokens.{Token}
-use Rattle.syntax.specs.Terms.{word_code}
 use Rattle.grammar.specs.Spelling.{Mark}
 use Rattle.grammar.specs.Variables.{Variables as Names}
-use Rattle.grammar.specs.Sizes.{greatest_number, too_big, too_long, too_many, too_many_variables, refusal, fault}
+use Rattle.grammar.specs.Sizes.{greatest_number, most_bytes, too_big, too_long, too_many, too_many_variables, refusal, fault}
 
 module _ (ground : Bool) (vs : Names) (u : Token) (m : Mark) where
   abbrev marked : Marked Token Mark
@@ -51,36 +50,10 @@ module _ (ground : Bool) (vs : Names) (u : Token) (m : Mark) where
       go false true = refl
       go false false = refl
 
--- ---- a name or a variable
-
-module _ (len : ℕ) (over : Bool) (code : ℕ) (e : code ≡ word_code len over) where
-  pub word_kept : code ≡ 0 → (ltb 64 len ≡ false) × (over ≡ false)
-  unfolding word_code
-  word_kept z = go (ltb 64 len) refl over refl (inv e ∙ z)
-    where
-      go : (a : Bool) → ltb 64 len ≡ a → (b : Bool) → over ≡ b → ◌≡◌ {A = ℕ} (cond a 4 (cond b 4 0)) 0 → (ltb 64 len ≡ false) × (over ≡ false)
-      go true p b q h = absurd (omega arith)
-      go false p true q h = absurd (omega arith)
-      go false p false q h = (p, q)
-
-  pub word_four : (code ≡ 0 → ⊥) → code ≡ 4
-  unfolding word_code
-  word_four n = go (ltb 64 len) over e
-    where
-      go : (a b : Bool) → code ≡ cond a 4 (cond b 4 0) → code ≡ 4
-      go true b h = h
-      go false true h = h
-      go false false h = absurd (n h)
-
-  -- a word that is refused
-  pub word_fault : (ground : Bool) (vs : Names) (u : Token) (m : Mark) → too_big u ≡ false → too_long u ≡ ltb 64 len → too_many ground m ≡ over → (code ≡ 0 → ⊥) → fault ground vs (record { token = u; mark = m }) ≡ code
-  unfolding word_code
-  word_fault ground vs u m small long many n = go (ltb 64 len) refl over refl ∙ inv (word_four n)
-    where
-      go : (a : Bool) → ltb 64 len ≡ a → (b : Bool) → over ≡ b → fault ground vs (record { token = u; mark = m }) ≡ 4
-      go true p b q = fault_long ground vs u m small (long ∙ p)
-      go false p true q = fault_many ground vs u m small (many ∙ q)
-      go false p false q = absurd (n (e ∙ rw (p, q)))
+-- a word that has too many bytes, or is one too many
+pub word_fault : (ground : Bool) (vs : Names) (u : Token) (m : Mark) (len : ℕ) (over : Bool) → too_big u ≡ false → too_long u ≡ ltb most_bytes len → too_many ground m ≡ over → (over ≡ false → most_bytes < len) → fault ground vs (record { token = u; mark = m }) ≡ 4
+word_fault ground vs u m len true small long many l = fault_many ground vs u m small many
+word_fault ground vs u m len false small long many l = fault_long ground vs u m small (long ∙ lt-ltb most_bytes len (l refl))
 
 -- ---- numbers
 

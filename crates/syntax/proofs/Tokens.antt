@@ -57,10 +57,6 @@ of_kind Stray b h = refl
 of_kind String b h = refl
 of_kind Bar b h = refl
 
--- the token that the reader of tokens gives is the one at the place
-pub as_read : (ground : Bool) (text : Bytes) (at : ℕ) (t : TextToken) → t ≡ next_token (not ground) text at → (k : ℕ) → k ≡ kind_number t.kind → record { kind = k; place = t.place } ≡ token_read ground text at
-as_read ground text at t e k q = rw (q, e)
-
 module _ (ground : Bool) (text : Bytes) (at : ℕ) (t : TokenRead) (et : t ≡ token_read ground text at) where
   abbrev next : TextToken
   next = next_token (not ground) text at

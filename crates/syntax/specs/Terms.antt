@@ -1,5 +1,8 @@
--- Terms: where they stand, and the number of refusal of a word.
-use Rattle.std.specs.Prelude.{◌≡◌, Bool, true, false, cond, ℕ, ltb, ℤ, pos, neg_ℤ}
+-- Terms: where they stand, and the size of a word.
+use Rattle.std.specs.Prelude.{◌≡◌, Bool, true, false, ℕ, ◌≤◌, ◌<◌, ℤ, pos, neg_ℤ, Result, Ok, Err}
+use Rattle.texts.specs.declared.place.Place.{Place}
+use Rattle.texts.specs.declared.refusal.Refusal.TheVariants.{OverSize}
+use Rattle.texts.specs.declared.refusal.Refused.{Refused}
 use Rattle.meaning.specs.Rules.{Term}
 use Rattle.meaning.specs.Values.{Value}
 use Rattle.grammar.specs.Trees.{Term as Tree}
@@ -27,6 +30,7 @@ unfoldable pub signed : Bool → ℕ → ℤ
 signed true n = neg_ℤ (pos n)
 signed false n = pos n
 
--- 4 where a word has too many bytes or is one too many
-unfoldable pub word_code : ℕ → Bool → ℕ
-word_code len over = cond (ltb most_bytes len) 4 (cond over 4 0)
+-- a word that counts as so many bytes: it has no more than it may have and is none too many, or is refused at its place
+abbrev pub FitsWord : Place → ℕ → Bool → Result (Unit {0}) Refused → Type 0
+FitsWord place len over (Ok u) = (len ≤ most_bytes) × (over ≡ false)
+FitsWord place len over (Err e) = (e ≡ record { refusal = OverSize; place = place }) × (over ≡ false → most_bytes < len)

@@ -1,47 +1,34 @@
 // What stands behind one of several things: a comma before the next, or the mark behind the last.
 ghost use Rattle.std.specs.Prelude.{◌≡◌};
 ghost use Rattle.texts.specs.Place.{Stands};
-ghost use Rattle.syntax.specs.Arguments.{gone_separator, Separates};
+ghost use Rattle.syntax.specs.Arguments.{Separates};
 
-use crate::token::{Progress, token_at};
-use crate::word::WRONG;
+use crate::token::token_at;
 use lexis::kind::COMMA;
 use texts::place::{Place, past};
+use texts::refusal::{Refusal, Refused};
 
 // A comma, or, where `last`, the mark.
 #[derive(Clone, Copy)]
-pub struct SeparatorRead {
-    pub progress: Progress,
+pub struct Separator {
+    pub behind: Place,
     pub last: bool,
 }
 
-fn gone(next: Place, last: bool) -> SeparatorRead
-    ensures { result ≡ gone_separator next last }
-{
-    SeparatorRead {
-        progress: Progress {
-            code: 0,
-            place: next,
-        },
-        last,
-    }
-}
-
 // The separator at a place, where `mark` is the number of the kind that ends the list.
-pub fn separator_at(text: &[u8], at: Place, ground: bool, mark: u8) -> SeparatorRead
+pub fn separator_at(text: &[u8], at: Place, ground: bool, mark: u8) -> Result<Separator, Refused>
     requires { Stands text.now at }
     ensures { Separates ground text.now at.start mark result }
 {
     let token = token_at(text, at, ground);
-    if token.kind == COMMA {
-        return gone(past(token.place), false);
+    if token.kind != COMMA && token.kind != mark {
+        return Err(Refused {
+            refusal: Refusal::Misplaced,
+            place: token.place,
+        });
     }
-    if token.kind == mark {
-        return gone(past(token.place), true);
-    }
-    let place = token.place;
-    SeparatorRead {
-        progress: Progress { code: WRONG, place },
-        last: false,
-    }
+    Ok(Separator {
+        behind: past(token.place),
+        last: token.kind != COMMA,
+    })
 }

@@ -1,4 +1,4 @@
-// The token at a place, as the productions see it, and how far reading has got.
+// The token at a place, as the productions see it.
 ghost use Rattle.std.specs.Prelude.{◌≡◌};
 ghost use Rattle.texts.specs.Place.{Stands};
 ghost use Rattle.syntax.specs.Text.{token_read};
@@ -11,13 +11,6 @@ use tokens::next_token;
 #[derive(Clone, Copy)]
 pub struct TokenRead {
     pub kind: u8,
-    pub place: Place,
-}
-
-// How far reading has got: code 0 and where it goes on, or the number of a refusal and its place.
-#[derive(Clone, Copy)]
-pub struct Progress {
-    pub code: u8,
     pub place: Place,
 }
 

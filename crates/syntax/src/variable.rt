@@ -14,13 +14,10 @@ pub fn variable_number(text: &[u8], place: Place, variables: &[u32], met: usize)
     ensures { result ≡ first_among (part text.now place) (map (part text.now) (places_in variables.now met)) }
 {
     let name = part(text, place);
-    let mut i = 0;
-    while i < met {
-        let earlier = place_in(variables, i);
-        if same_bytes(name, part(text, earlier)) {
+    for i in 0..met {
+        if same_bytes(name, part(text, place_in(variables, i))) {
             return i;
         }
-        i += 1;
     }
-    i
+    met
 }

@@ -1,36 +1,35 @@
-// The numbers of refusal that a token gets, and that of a word.
+// The size of a word: a name, a variable or a string.
 ghost use Rattle.std.specs.Prelude.{◌≡◌, ◌-◌, ◌≤◌};
-ghost use Rattle.syntax.specs.Terms.{word_code};
+ghost use Rattle.syntax.specs.Terms.{FitsWord};
 
-use texts::place::{Place, with_len};
+use texts::place::Place;
+use texts::refusal::{Refusal, Refused};
 use texts::sizes::MOST_NAME;
 
-// A token that the grammar can't have there.
-pub const WRONG: u8 = 2;
-
-// A number over its size.
-pub const BIG: u8 = 3;
-
-// Another size is passed.
-pub const OVER: u8 = 4;
-
-// 4 where a name or a variable has too many bytes or is one too many, else 0.
-pub fn word_code(place: Place, over: bool) -> u8
-    ensures { result ≡ word_code place.len over }
+// A name or a variable is refused where it has too many bytes or is one too many.
+pub fn fits_word(place: Place, over: bool) -> Result<(), Refused>
+    ensures { FitsWord place place.len over result }
 {
-    if MOST_NAME < place.len {
-        return OVER;
-    }
-    if over {
-        return OVER;
-    }
-    0
+    fits(place, place.len, over)
 }
 
-// .. where a string has, without its two quotes.
-pub fn string_code(place: Place, over: bool) -> u8
+// .. and a string, without its two quotes.
+pub fn fits_string(place: Place, over: bool) -> Result<(), Refused>
     requires { 2 ≤ place.len }
-    ensures { result ≡ word_code (place.len - 2) over }
+    ensures { FitsWord place (place.len - 2) over result }
 {
-    word_code(with_len(place, place.len - 2), over)
+    fits(place, place.len - 2, over)
+}
+
+// .. what stands at a place and counts as so many bytes.
+fn fits(place: Place, len: usize, over: bool) -> Result<(), Refused>
+    ensures { FitsWord place len over result }
+{
+    if over || MOST_NAME < len {
+        return Err(Refused {
+            refusal: Refusal::OverSize,
+            place,
+        });
+    }
+    Ok(())
 }

@@ -7,9 +7,5 @@ pub fn put_row(table: &mut [u64], at: usize, row: &[u64])
     requires { at + length row.now ≤ length table.old }
     ensures { table.new ≡ with_row table.old at row.now }
 {
-    let mut i = 0;
-    while i < row.len() {
-        table[at + i] = row[i];
-        i += 1;
-    }
+    table[at..at + row.len()].copy_from_slice(row);
 }

@@ -1,5 +1,5 @@
 -- What the functions that read a term return, by the tests that led there.
-use mathlib.Core.Path.{◌≡◌, refl, ap, subst, sym as inv, ◌∙◌}
+use mathlib.Core.Path.{◌≡◌, refl, ap, sym as inv, ◌∙◌}
 use mathlib.Core.Bool.{Bool, true, false, not, cond}
 use mathlib.Core.List.{List, [], ◌∷◌, ◌++◌, map}
 use Prim.Native.Nat.{ℕ, zero, suc, ◌+◌, ◌-◌, ◌≤◌, ◌<◌}
@@ -7,8 +7,11 @@ use native.Mathlib.Omega.{arith}
 use lib.Dec.{leb}
 use lib.ListN.{length, take, drop, length-take, length-drop}
 use lib.Seq.{take-take}
-use borrow.Author.Tests.{leb-true, lt-leb, le-leb, ne_eqb}
+use borrow.Author.Tests.{leb-true, le-leb, ne_eqb}
+use Rattle.std.specs.Prelude.{Some, Result, Ok, Err}
 use Rattle.texts.specs.declared.place.Place.{Place}
+use Rattle.texts.specs.declared.refusal.Refusal.TheVariants.{LargeNumber, OverSize, Misplaced}
+use Rattle.texts.specs.declared.refusal.Refused.{Refused}
 use Rattle.lexis.specs.declared.kind.Kind.TheVariants.{String}
 use Rattle.lexis.specs.Kind.{kind_number, is_end, is_stray}
 use Rattle.lexis.specs.Spelling.{kind_of}
@@ -24,15 +27,15 @@ use Rattle.tokens.proofs.Next.{not_empty}
 use Rattle.texts.proofs.PlaceTables.{places_length, places_more, stands_storable}
 use Rattle.meaning.specs.Rules.{Bytes}
 use Rattle.meaning.specs.Values.{number, in_range}
-use Rattle.grammar.specs.Sizes.{greatest_number}
+use Rattle.grammar.specs.Sizes.{greatest_number, most_bytes}
 use Rattle.codes.specs.Codes.{first_name, first_string, number_code}
-use Rattle.names.specs.declared.Found.TheVariants.{At}
 use Rattle.names.specs.Numbering.{Interns}
 use Rattle.syntax.specs.declared.token.TokenRead.{TokenRead}
 use Rattle.syntax.specs.Text.{token_read, next_of}
 use Rattle.syntax.specs.Variables.{Fits, first_among}
-use Rattle.syntax.specs.Fills.{Fills, read, stopped}
-use Rattle.syntax.specs.Terms.{term_in, signed, word_code}
+use Rattle.syntax.specs.Fills.{Goes, Stops, Fills}
+use Rattle.syntax.specs.Terms.{term_in, signed}
+use Rattle.syntax.proofs.Readings.{stops_as, goes_as}
 use Rattle.syntax.proofs.Tokens.{place_within, place_stands, part_length, forward, spelled_here}
 use Rattle.syntax.proofs.Terms as laws
 use Rattle.rows.specs.Coding.{Codes}
@@ -41,7 +44,7 @@ use Rattle.rows.proofs.Terms.{coded_number_term, coded_variable_term, name_coded
 use Rattle.terms.specs.declared.cursor.Cursor.{Cursor}
 use Rattle.terms.specs.declared.term.TermRead.{TermRead}
 use Rattle.terms.specs.Cursors.{variables_size, ReadyCursor, met_before}
-use Rattle.terms.specs.Terms.{ReadsTerm, Nameless, ReadsNegative, Puttable, ReadsNameless, stopped_term, gone_term, number_term}
+use Rattle.terms.specs.Terms.{ReadsTerm, Nameless, ReadsNegative, Puttable, ReadsNameless, number_term}
 use Rattle.terms.proofs.Readiness.{met_fits, codes_wider}
 
 -- ---- numbers
@@ -52,48 +55,31 @@ signed_range true zero h = refl
 signed_range true (suc n) h = rw (le-leb n 999_999_999 (omega arith))
 signed_range false n h = rw (le-leb n 1_000_000_000 h)
 
--- the value of a number token
-module _ (text : Bytes) (t : TokenRead) (negative over : Bool) (met : ℕ) (d : Bytes) (ed : d ≡ part text t.place) (n : ℕ) (en : n ≡ capped (decimal d)) where
-  value_is : n ≡ capped (decimal (part text t.place))
-  value_is = rw ed at en
-
-  pub number_big : greatest_number < n → number_term text t negative over met ≡ stopped_term 3 t.place met
-  unfolding number_term
-  number_big h = rw (← value_is, lt-leb n greatest_number h)
-
-  pub number_over : n ≤ greatest_number → over ≡ true → number_term text t negative over met ≡ stopped_term 4 t.place met
-  unfolding number_term
-  number_over h o = rw (← value_is, le-leb n greatest_number h, o)
-
-  pub number_small : n ≤ greatest_number → over ≡ false → (c : ℕ) → c ≡ number_code (signed negative n) → number_term text t negative over met ≡ gone_term c (past t.place) met
-  unfolding number_term
-  number_small h o c ec = rw (← value_is, le-leb n greatest_number h, o, ec)
-
 module _ (ground : Bool) (text : Bytes) (at : ℕ) (t : TokenRead) (et : t ≡ token_read ground text at) (ek : t.kind ≡ 4) where
   abbrev value : ℕ
   value = capped (decimal (part text t.place))
 
   -- a number, where a term is wanted
-  pub term_number : (over : Bool) (v : List Place) → Fits v → (met : ℕ) (r : TermRead) → r ≡ number_term text t false over met → Fills (term_in ground over) over text at v r.progress v (Nameless r.number)
+  pub term_number : (over : Bool) (places : ℕ → List Place) (met : ℕ) → Fits (places met) → (r : Result TermRead Refused) → r ≡ number_term text t false over met → Fills (term_in ground over) over text at (places met) r (λ a. a.behind) (λ a. places a.met) (λ a. Nameless a.number)
   unfolding number_term
-  term_number over v fits met r er = rw er (go (leb value greatest_number) refl over refl)
+  term_number over places met fits r er = rw er (go (leb value greatest_number) refl over refl)
     where
-      go : (b : Bool) → leb value greatest_number ≡ b → (o : Bool) → over ≡ o → let r' = cond b (cond o (stopped_term 4 t.place met) (gone_term (number_code (signed false value)) (past t.place) met)) (stopped_term 3 t.place met) in Fills (term_in ground over) over text at v r'.progress v (Nameless r'.number)
-      go true q true o = laws.term_many ground over text at t et v ek q o
-      go true q false o = laws.term_small ground over text at t et v ek q fits o (λ names. coded_number_term names _ _ refl (signed_range false _ (leb-true _ 1_000_000_000 q)))
-      go false q o e = laws.term_big ground over text at t et v ek q
+      go : (b : Bool) → leb value greatest_number ≡ b → (o : Bool) → over ≡ o → Fills {A = TermRead} (term_in ground over) over text at (places met) (cond b (cond o (Err (record { refusal = OverSize; place = t.place })) (Ok (record { number = number_code (signed false value); behind = past t.place; met = met }))) (Err (record { refusal = LargeNumber; place = t.place }))) (λ a. a.behind) (λ a. places a.met) (λ a. Nameless a.number)
+      go true q true o = laws.term_many ground over text at t et (places met) ek q o
+      go true q false o = laws.term_small ground over text at t et (places met) ek q fits o (λ names. coded_number_term names _ _ refl (signed_range false _ (leb-true _ 1_000_000_000 q)))
+      go false q o e = laws.term_big ground over text at t et (places met) ek q
 
   -- the number behind a minus
-  pub negative_number : (met : ℕ) (r : TermRead) → r ≡ number_term text t true false met → ReadsNegative ground text at met r
+  pub negative_number : (met : ℕ) (r : Result TermRead Refused) → r ≡ number_term text t true false met → ReadsNegative ground text at met r
   unfolding number_term
   negative_number met r er = rw er (go (leb value greatest_number) refl)
     where
-      go : (b : Bool) → leb value greatest_number ≡ b → ReadsNegative ground text at met (cond b (gone_term (number_code (signed true value)) (past t.place) met) (stopped_term 3 t.place met))
+      go : (b : Bool) → leb value greatest_number ≡ b → ReadsNegative ground text at met (cond b (Ok (record { number = number_code (signed true value); behind = past t.place; met = met })) (Err (record { refusal = LargeNumber; place = t.place })))
       go true q = record { same_met = refl; reads = λ v fits. laws.negative_small ground false text at t et v ek q fits (λ names. coded_number_term names _ _ refl (signed_range true _ (leb-true _ 1_000_000_000 q))) }
-      go false q = record { same_met = refl; reads = λ v fits. laws.negative_big ground false text at t et v ek q }
+      go false q = record { same_met = tt; reads = λ v fits. laws.negative_big ground false text at t et v ek q }
 
-pub negative_wrong : (ground : Bool) (text : Bytes) (at : ℕ) (t : TokenRead) → t ≡ token_read ground text at → (t.kind ≡ 4 → ⊥) → (met : ℕ) (r : TermRead) → r ≡ stopped_term 2 t.place met → ReadsNegative ground text at met r
-negative_wrong ground text at t et ne met r er = rw er (record { same_met = refl; reads = λ v fits. laws.negative_wrong ground false text at t et v ne })
+pub negative_wrong : (ground : Bool) (text : Bytes) (at : ℕ) (t : TokenRead) → t ≡ token_read ground text at → (t.kind ≡ 4 → ⊥) → (met : ℕ) → ReadsNegative ground text at met (Err (record { refusal = Misplaced; place = t.place }))
+negative_wrong ground text at t et ne met = record { same_met = tt; reads = λ v fits. laws.negative_wrong ground false text at t et v ne }
 
 -- ---- the bytes of a token: a name is not empty ..
 
@@ -130,7 +116,7 @@ module _ (ground : Bool) (text : Bytes) (at : ℕ) (t : TokenRead) (et : t ≡ t
 
 -- ---- a variable, in a program
 
-module _ (over : Bool) (text : Bytes) (at : ℕ) (t : TokenRead) (et : t ≡ token_read false text at) (variables : List ℕ) (met : ℕ) (few : met ≤ 16) (r : TermRead) where
+module _ (over : Bool) (text : Bytes) (at : ℕ) (t : TokenRead) (et : t ≡ token_read false text at) (variables : List ℕ) (met : ℕ) (few : met ≤ 16) where
   abbrev v : List Place
   v = places_in variables met
 
@@ -141,29 +127,29 @@ module _ (over : Bool) (text : Bytes) (at : ℕ) (t : TokenRead) (et : t ≡ tok
   more long h variables' e = rw e (places_more variables met t.place (omega arith))
 
   module _ (ek : t.kind ≡ 2) where
-    pub variable_stops : (variables' : List ℕ) (code : ℕ) → code ≡ word_code t.place.len over → (code ≡ 0 → ⊥) → r ≡ stopped_term code t.place met → ReadsNameless false over text at variables met r variables'
-    variable_stops variables' code ec n er = rw er (laws.variable_stops over text at t et v ek code ec n)
+    pub variable_stops : (over ≡ false → most_bytes < t.place.len) → Stops (term_in false over) text at v (record { refusal = OverSize; place = t.place })
+    variable_stops l = laws.variable_stops over text at t et v ek l
 
     module _ (n : ℕ) (en : n ≡ first_among (part text t.place) (map (part text) v)) where
-      pub variable_many : (variables' : List ℕ) → met ≤ n → 16 ≤ n → r ≡ stopped_term 4 t.place met → ReadsNameless false over text at variables met r variables'
-      variable_many variables' k l er = rw er (laws.variable_many over text at t et v ek n en (omega (arith, how_many)) l)
+      pub variable_many : met ≤ n → 16 ≤ n → Stops (term_in false over) text at v (record { refusal = OverSize; place = t.place })
+      variable_many k l = laws.variable_many over text at t et v ek n en (omega (arith, how_many)) l
 
-      module _ (code : ℕ) (ec : code ≡ word_code t.place.len over) (z : code ≡ 0) where
-        pub variable_known : n < met → r ≡ gone_term n (past t.place) met → ReadsNameless false over text at variables met r variables
-        variable_known k er = rw er (laws.variable_known over text at t et v ek n en code ec z (λ names. coded_variable_term names n (omega arith)) (omega (arith, how_many)) (omega (arith, how_many)))
+      module _ (l : t.place.len ≤ most_bytes) (o : over ≡ false) where
+        pub variable_known : n < met → Goes (term_in false over) over text at v (past t.place) v (Nameless n)
+        variable_known k = laws.variable_known over text at t et v ek n en l o (λ names. coded_variable_term names n (omega arith)) (omega (arith, how_many)) (omega (arith, how_many))
 
-        pub variable_new : variables_size ≤ length variables → met ≤ n → n < 16 → (variables' : List ℕ) → variables' ≡ with_place variables met t.place → r ≡ gone_term n (past t.place) (met + 1) → ReadsNameless false over text at variables met r variables'
-        variable_new long k q variables' ev er = rw (er, more long (omega arith) variables' ev) (laws.variable_new over text at t et v ek n en code ec z (λ names. coded_variable_term names n (omega arith)) (omega (arith, how_many)) (λ h. omega arith))
+        pub variable_new : variables_size ≤ length variables → met ≤ n → n < 16 → (variables' : List ℕ) → variables' ≡ with_place variables met t.place → Goes (term_in false over) over text at v (past t.place) (places_in variables' (met + 1)) (Nameless n)
+        variable_new long k q variables' ev = rw (more long (omega arith) variables' ev) (laws.variable_new over text at t et v ek n en l o (λ names. coded_variable_term names n (omega arith)) (omega (arith, how_many)) (λ h. omega arith))
 
   module _ (ek : t.kind ≡ 3) where
-    pub anonymous_over : (variables' : List ℕ) → over ≡ true → r ≡ stopped_term 4 t.place met → ReadsNameless false over text at variables met r variables'
-    anonymous_over variables' o er = rw er (laws.anonymous_over over text at t et v ek o)
+    pub anonymous_over : over ≡ true → Stops (term_in false over) text at v (record { refusal = OverSize; place = t.place })
+    anonymous_over o = laws.anonymous_over over text at t et v ek o
 
-    pub anonymous_many : (variables' : List ℕ) → 16 ≤ met → r ≡ stopped_term 4 t.place met → ReadsNameless false over text at variables met r variables'
-    anonymous_many variables' l er = rw er (laws.anonymous_many over text at t et v ek (omega (arith, how_many)))
+    pub anonymous_many : 16 ≤ met → Stops (term_in false over) text at v (record { refusal = OverSize; place = t.place })
+    anonymous_many l = laws.anonymous_many over text at t et v ek (omega (arith, how_many))
 
-    pub anonymous_new : variables_size ≤ length variables → over ≡ false → met < 16 → (variables' : List ℕ) → variables' ≡ with_place variables met t.place → r ≡ gone_term met (past t.place) (met + 1) → ReadsNameless false over text at variables met r variables'
-    anonymous_new long o q variables' ev er = rw (er, more long (omega arith) variables' ev) (laws.anonymous_new over text at t et v ek o (omega (arith, how_many)) (λ names. rw how_many (coded_variable_term names met (omega arith))))
+    pub anonymous_new : variables_size ≤ length variables → over ≡ false → met < 16 → (variables' : List ℕ) → variables' ≡ with_place variables met t.place → Goes (term_in false over) over text at v (past t.place) (places_in variables' (met + 1)) (Nameless met)
+    anonymous_new long o q variables' ev = rw (more long (omega arith) variables' ev) (laws.anonymous_new over text at t et v ek o (omega (arith, how_many)) (λ names. rw how_many (coded_variable_term names met (omega arith))))
 
 -- ---- any term
 
@@ -172,9 +158,9 @@ pub puttable : (program output text : Bytes) (names variables : List ℕ) (k : C
 puttable program output text names variables k ready t et = let w = place_within k.ground text k.at.start t et in let h = ready.short in record { few = ready.few; long = ready.long; fits = stands_storable text t.place (place_stands k.ground text k.at.start t et) w ready.short }
 
 -- a term that is no name and no string
-module _ (text : Bytes) (variables : List ℕ) (k : Cursor) (few : k.met ≤ 16) (t : TokenRead) (et : t ≡ token_read k.ground text k.at.start) (r : TermRead) where
-  abbrev Reads : List ℕ → Type 0
-  Reads variables' = ReadsNameless k.ground k.over text k.at.start variables k.met r variables'
+module _ (text : Bytes) (variables : List ℕ) (k : Cursor) (few : k.met ≤ 16) (t : TokenRead) (et : t ≡ token_read k.ground text k.at.start) where
+  abbrev Reads : Result TermRead Refused → List ℕ → Type 0
+  Reads r variables' = ReadsNameless k.ground k.over text k.at.start variables k.met r variables'
 
   abbrev vs : List Place
   vs = met_before variables k
@@ -182,43 +168,31 @@ module _ (text : Bytes) (variables : List ℕ) (k : Cursor) (few : k.met ≤ 16)
   fits : Fits vs
   fits = omega (arith, places_length variables k.met)
 
-  -- a variable stands in a program only
-  pub in_program : (variables' : List ℕ) → k.ground ≡ false → (t ≡ token_read false text k.at.start → ReadsNameless false k.over text k.at.start variables k.met r variables') → Reads variables'
-  in_program variables' g f = subst (λ (b : Bool). t ≡ token_read b text k.at.start → ReadsNameless b k.over text k.at.start variables k.met r variables') (inv g) f et
-
-  pub number_goes : t.kind ≡ 4 → r ≡ number_term text t false k.over k.met → Reads variables
-  unfolding number_term
-  number_goes ek er = rw (ap (λ m. places_in variables m) (same er)) (term_number k.ground text k.at.start t et ek k.over vs fits k.met r er)
-    where
-      same : r ≡ number_term text t false k.over k.met → r.met ≡ k.met
-      same e = rw e (go (leb (capped (decimal (part text t.place))) greatest_number) k.over)
-        where
-          go : (b o : Bool) → (cond b (cond o (stopped_term 4 t.place k.met) (gone_term (number_code (signed false (capped (decimal (part text t.place))))) (past t.place) k.met)) (stopped_term 3 t.place k.met)).met ≡ k.met
-          go true true = refl
-          go true false = refl
-          go false o = refl
+  pub number_goes : t.kind ≡ 4 → (r : Result TermRead Refused) → r ≡ number_term text t false k.over k.met → Reads r variables
+  number_goes ek r er = term_number k.ground text k.at.start t et ek k.over (places_in variables) k.met fits r er
 
   -- the number behind a minus
-  pub minus_goes : t.kind ≡ 10 → k.over ≡ false → ReadsNegative k.ground text (next_of t) k.met r → Reads variables
-  minus_goes ek o g = rw g.same_met (laws.minus_goes k.ground k.over text k.at.start t et vs ek o (λ a s. s) (g.reads vs fits))
+  pub minus_goes : t.kind ≡ 10 → k.over ≡ false → (r : Result TermRead Refused) → ReadsNegative k.ground text (next_of t) k.met r → Reads r variables
+  minus_goes ek o (Ok a) g = rw g.same_met (goes_as (laws.minus_around k.ground k.over text k.at.start t et vs ek o) (Nameless a.number) (λ m l s. s) (g.reads vs fits))
+  minus_goes ek o (Err e) g = stops_as (laws.minus_around k.ground k.over text k.at.start t et vs ek o) (g.reads vs fits)
 
   -- refusals
 
-  pub minus_over : (variables' : List ℕ) → t.kind ≡ 10 → k.over ≡ true → r ≡ stopped_term 4 t.place k.met → Reads variables'
-  minus_over variables' ek o er = rw er (laws.minus_over k.ground k.over text k.at.start t et vs ek o)
+  pub minus_over : t.kind ≡ 10 → k.over ≡ true → Stops (term_in k.ground k.over) text k.at.start vs (record { refusal = OverSize; place = t.place })
+  minus_over ek o = laws.minus_over k.ground k.over text k.at.start t et vs ek o
 
-  module _ (variables' : List ℕ) (a : t.kind ≡ 0 → ⊥) (s : t.kind ≡ 22 → ⊥) (b : t.kind ≡ 4 → ⊥) (c : t.kind ≡ 10 → ⊥) (er : r ≡ stopped_term 2 t.place k.met) where
-    pub ground_wrong : k.ground ≡ true → Reads variables'
-    ground_wrong g = rw er (laws.ground_wrong k.ground k.over text k.at.start t et vs a s b c g)
+  module _ (a : t.kind ≡ 0 → ⊥) (s : t.kind ≡ 22 → ⊥) (b : t.kind ≡ 4 → ⊥) (c : t.kind ≡ 10 → ⊥) where
+    pub ground_wrong : k.ground ≡ true → Stops (term_in k.ground k.over) text k.at.start vs (record { refusal = Misplaced; place = t.place })
+    ground_wrong g = laws.ground_wrong k.ground k.over text k.at.start t et vs a s b c g
 
-    pub free_wrong : k.ground ≡ false → (t.kind ≡ 2 → ⊥) → (t.kind ≡ 3 → ⊥) → Reads variables'
-    free_wrong g d e = rw er (laws.free_wrong k.ground k.over text k.at.start t et vs a s b c g d e)
+    pub free_wrong : k.ground ≡ false → (t.kind ≡ 2 → ⊥) → (t.kind ≡ 3 → ⊥) → Stops (term_in k.ground k.over) text k.at.start vs (record { refusal = Misplaced; place = t.place })
+    free_wrong g d e = laws.free_wrong k.ground k.over text k.at.start t et vs a s b c g d e
 
-module _ (program output text : Bytes) (names variables : List ℕ) (k : Cursor) (ready : ReadyCursor program output text names variables k) (r : TermRead) where
+module _ (program output text : Bytes) (names variables : List ℕ) (k : Cursor) (ready : ReadyCursor program output text names variables k) where
   -- a term that is no name and no string leaves the names as they are
-  pub nameless : (variables' : List ℕ) → ReadsNameless k.ground k.over text k.at.start variables k.met r variables' → ReadsTerm program output text names variables k r names variables'
-  nameless variables' (read c b n o f x s m w) = read c b n o f x (record { grows = grows_none program output names _ ready.room.in_order; coded = s _ }) m w
-  nameless variables' (stopped c w) = stopped c w
+  pub nameless : (r : Result TermRead Refused) (variables' : List ℕ) → ReadsNameless k.ground k.over text k.at.start variables k.met r variables' → ReadsTerm program output text names variables k r names variables'
+  nameless (Ok a) variables' g = record { forward = g.forward; stands = g.stands; kept = g.kept; fits = g.fits; tree = g.tree; means = record { grows = grows_none program output names _ ready.room.in_order; coded = g.means _ }; names = g.names; ahead = g.ahead }
+  nameless (Err e) variables' g = g
 
   module _ (t : TokenRead) (et : t ≡ token_read k.ground text k.at.start) where
     -- the table grows by one, and the token has a byte
@@ -226,21 +200,21 @@ module _ (program output text : Bytes) (names variables : List ℕ) (k : Cursor)
     by_one n h = codes_wider _ (let l = forward k.ground text k.at.start t et n in omega arith) h
 
     -- `|` is no term
-    pub bar_wrong : t.kind ≡ 23 → r ≡ stopped_term 2 t.place k.met → ReadsTerm program output text names variables k r names variables
-    bar_wrong ek er = rw er (laws.bar_wrong k.ground k.over text k.at.start t et (met_before variables k) ek)
+    pub bar_wrong : t.kind ≡ 23 → Stops (term_in k.ground k.over) text k.at.start (met_before variables k) (record { refusal = Misplaced; place = t.place })
+    bar_wrong ek = laws.bar_wrong k.ground k.over text k.at.start t et (met_before variables k) ek
 
-    module _ (ek : t.kind ≡ 0) (code : ℕ) (ec : code ≡ word_code t.place.len k.over) where
-      pub name_stops : (names' : List ℕ) → (code ≡ 0 → ⊥) → r ≡ stopped_term code t.place k.met → ReadsTerm program output text names variables k r names' variables
-      name_stops names' n er = rw er (laws.name_stops k.ground k.over text k.at.start t et (met_before variables k) ek code ec n)
+    module _ (ek : t.kind ≡ 0) where
+      pub name_stops : (k.over ≡ false → most_bytes < t.place.len) → Stops (term_in k.ground k.over) text k.at.start (met_before variables k) (record { refusal = OverSize; place = t.place })
+      name_stops l = laws.name_stops k.ground k.over text k.at.start t et (met_before variables k) ek l
 
       -- a name is put into the table of names
-      pub name_goes : code ≡ 0 → (names' : List ℕ) (i : ℕ) → Interns program output names (part text t.place) names' (At i) → r ≡ gone_term (first_name + i) (past t.place) k.met → ReadsTerm program output text names variables k r names' variables
-      name_goes z names' i h er = rw er (laws.name_goes k.ground k.over text k.at.start t et (met_before variables k) ek code ec z (met_fits ready) (by_one (λ q. omega arith) (name_coded program output names _ names' i h)))
+      pub name_goes : t.place.len ≤ most_bytes → k.over ≡ false → (names' : List ℕ) (i : ℕ) → Interns program output names (part text t.place) names' (Some i) → ReadsTerm program output text names variables k (Ok (record { number = first_name + i; behind = past t.place; met = k.met })) names' variables
+      name_goes l o names' i h = laws.name_goes k.ground k.over text k.at.start t et (met_before variables k) ek l o (met_fits ready) (by_one (λ q. omega arith) (name_coded program output names _ names' i h))
 
-    module _ (ek : t.kind ≡ 22) (code : ℕ) (ec : code ≡ word_code (t.place.len - 2) k.over) where
-      pub string_stops : (names' : List ℕ) → (code ≡ 0 → ⊥) → r ≡ stopped_term code t.place k.met → ReadsTerm program output text names variables k r names' variables
-      string_stops names' n er = rw er (laws.string_stops k.ground k.over text k.at.start t et (met_before variables k) ek code ec n)
+    module _ (ek : t.kind ≡ 22) where
+      pub string_stops : (k.over ≡ false → most_bytes < t.place.len - 2) → Stops (term_in k.ground k.over) text k.at.start (met_before variables k) (record { refusal = OverSize; place = t.place })
+      string_stops l = laws.string_stops k.ground k.over text k.at.start t et (met_before variables k) ek l
 
       -- and so is a string, without its closing quote
-      pub string_goes : code ≡ 0 → (names' : List ℕ) (i : ℕ) → Interns program output names (part text (with_len t.place (t.place.len - 1))) names' (At i) → r ≡ gone_term (first_string + i) (past t.place) k.met → ReadsTerm program output text names variables k r names' variables
-      string_goes z names' i h er = rw er (laws.string_goes k.ground k.over text k.at.start t et (met_before variables k) ek code ec z (met_fits ready) (by_one (λ q. omega arith) (string_coded program output names _ names' i h _ (string_opened_here k.ground text k.at.start t et ek))))
+      pub string_goes : t.place.len - 2 ≤ most_bytes → k.over ≡ false → (names' : List ℕ) (i : ℕ) → Interns program output names (part text (with_len t.place (t.place.len - 1))) names' (Some i) → ReadsTerm program output text names variables k (Ok (record { number = first_string + i; behind = past t.place; met = k.met })) names' variables
+      string_goes l o names' i h = laws.string_goes k.ground k.over text k.at.start t et (met_before variables k) ek l o (met_fits ready) (by_one (λ q. omega arith) (string_coded program output names _ names' i h _ (string_opened_here k.ground text k.at.start t et ek)))

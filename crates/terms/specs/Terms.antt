@@ -1,6 +1,8 @@
 -- Terms as numbers: what the functions that read them promise.
-use Rattle.std.specs.Prelude.{◌≡◌, Bool, false, cond, List, ℕ, ◌-◌, ◌≤◌, leb, length}
+use Rattle.std.specs.Prelude.{◌≡◌, Bool, false, cond, List, ℕ, ◌-◌, ◌≤◌, leb, length, IfOk, Result, Ok, Err}
 use Rattle.texts.specs.declared.place.Place.{Place}
+use Rattle.texts.specs.declared.refusal.Refusal.TheVariants.{LargeNumber, OverSize}
+use Rattle.texts.specs.declared.refusal.Refused.{Refused}
 use Rattle.lexis.specs.Number.{capped, decimal}
 use Rattle.texts.specs.Place.{past}
 use Rattle.texts.specs.Places.{places_in, Storable}
@@ -12,7 +14,7 @@ use Rattle.codes.specs.Codes.{number_code}
 use Rattle.syntax.specs.declared.token.TokenRead.{TokenRead}
 use Rattle.syntax.specs.Text.{token_read}
 use Rattle.syntax.specs.Variables.{Fits}
-use Rattle.syntax.specs.Fills.{going, halted, Fills}
+use Rattle.syntax.specs.Fills.{Fills}
 use Rattle.syntax.specs.Terms.{term_in, negative_in, signed}
 use Rattle.rows.specs.Coding.{CodedTerm, Codes}
 use Rattle.terms.specs.declared.cursor.Cursor.{Cursor}
@@ -20,8 +22,8 @@ use Rattle.terms.specs.declared.term.TermRead.{TermRead}
 use Rattle.terms.specs.Cursors.{variables_size, ReadyCursor, ReadyToken, met_before}
 
 -- the term's number, beside the table of names afterwards
-abbrev pub ReadsTerm : Bytes → Bytes → Bytes → List ℕ → List ℕ → Cursor → TermRead → List ℕ → List ℕ → Type 0
-ReadsTerm program output text names variables k r names' variables' = Fills (term_in k.ground k.over) k.over text k.at.start (met_before variables k) r.progress (places_in variables' r.met) (λ (t : Term Value). Codes program output names (r.progress.place.start - k.at.start) (λ ns. CodedTerm ns r.number t) names')
+abbrev pub ReadsTerm : Bytes → Bytes → Bytes → List ℕ → List ℕ → Cursor → Result TermRead Refused → List ℕ → List ℕ → Type 0
+ReadsTerm program output text names variables k r names' variables' = Fills (term_in k.ground k.over) k.over text k.at.start (met_before variables k) r (λ t. t.behind) (λ t. places_in variables' t.met) (λ t (x : Term Value). Codes program output names (t.behind.start - k.at.start) (λ ns. CodedTerm ns t.number x) names')
 
 -- ---- a name, or a string
 
@@ -32,7 +34,7 @@ pub record ReadyConstant (kind : ℕ) (program output text : Bytes) (names : Lis
   pub is_kind : t.kind ≡ kind
 
 -- whatever variables have been met, they stay as they are
-abbrev pub ReadsConstant : Bytes → Bytes → Bytes → List ℕ → Cursor → TermRead → List ℕ → Type 0
+abbrev pub ReadsConstant : Bytes → Bytes → Bytes → List ℕ → Cursor → Result TermRead Refused → List ℕ → Type 0
 ReadsConstant program output text names k r names' = (variables : List ℕ) → ReadyCursor program output text names variables k → ReadsTerm program output text names variables k r names' variables
 
 -- ---- a number
@@ -42,9 +44,9 @@ abbrev pub Nameless : ℕ → Term Value → Type 0
 Nameless number t = (names : List Bytes) → CodedTerm names number t
 
 -- behind a minus: whatever variables have been met
-pub record ReadsNegative (ground : Bool) (text : Bytes) (at met : ℕ) (r : TermRead) : Type 0 where
-  pub same_met : r.met ≡ met
-  pub reads : (v : List Place) → Fits v → Fills (negative_in ground) false text at v r.progress v (Nameless r.number)
+pub record ReadsNegative (ground : Bool) (text : Bytes) (at met : ℕ) (r : Result TermRead Refused) : Type 0 where
+  pub same_met : IfOk r (λ t. t.met ≡ met)
+  pub reads : (v : List Place) → Fits v → Fills (negative_in ground) false text at v r (λ t. t.behind) (λ t. v) (λ t. Nameless t.number)
 
 -- ---- a variable
 
@@ -55,14 +57,14 @@ pub record Puttable (variables : List ℕ) (t : TokenRead) (met : ℕ) : Type 0 
   pub fits : Storable t.place
 
 -- a term that is no name and no string, and so leaves the names as they are
-abbrev pub ReadsNameless : Bool → Bool → Bytes → ℕ → List ℕ → ℕ → TermRead → List ℕ → Type 0
-ReadsNameless ground over text at variables met r variables' = Fills (term_in ground over) over text at (places_in variables met) r.progress (places_in variables' r.met) (Nameless r.number)
+abbrev pub ReadsNameless : Bool → Bool → Bytes → ℕ → List ℕ → ℕ → Result TermRead Refused → List ℕ → Type 0
+ReadsNameless ground over text at variables met r variables' = Fills (term_in ground over) over text at (places_in variables met) r (λ t. t.behind) (λ t. places_in variables' t.met) (λ t. Nameless t.number)
 
 -- in a program, wherever its token stands
-abbrev pub ReadsVariable : Bytes → List ℕ → TokenRead → Bool → ℕ → TermRead → List ℕ → Type 0
+abbrev pub ReadsVariable : Bytes → List ℕ → TokenRead → Bool → ℕ → Result TermRead Refused → List ℕ → Type 0
 ReadsVariable text variables t over met r variables' = (at : ℕ) → t ≡ token_read false text at → t.kind ≡ 2 → ReadsNameless false over text at variables met r variables'
 
-abbrev pub ReadsAnonymous : List ℕ → TokenRead → Bool → ℕ → TermRead → List ℕ → Type 0
+abbrev pub ReadsAnonymous : List ℕ → TokenRead → Bool → ℕ → Result TermRead Refused → List ℕ → Type 0
 ReadsAnonymous variables t over met r variables' = (text : Bytes) (at : ℕ) → t ≡ token_read false text at → t.kind ≡ 3 → ReadsNameless false over text at variables met r variables'
 
 -- ---- any term that is no name, no number and no string
@@ -77,14 +79,8 @@ pub record ReadyNameless (text : Bytes) (variables : List ℕ) (k : Cursor) (t :
 
 -- ---- what the parts of it answer
 
-abbrev pub stopped_term : ℕ → Place → ℕ → TermRead
-stopped_term code place met = record { progress = halted code place; number = 0; met = met }
-
-abbrev pub gone_term : ℕ → Place → ℕ → TermRead
-gone_term number next met = record { progress = going next; number = number; met = met }
-
--- a number's code; 3 where it is over its size, and else 4 where it is one too many
-unfoldable pub number_term : Bytes → TokenRead → Bool → Bool → ℕ → TermRead
+-- a number's code; it is refused where it is over its size, and else where it is one too many
+unfoldable pub number_term : Bytes → TokenRead → Bool → Bool → ℕ → Result TermRead Refused
 number_term text t negative over met =
     let n = capped (decimal (part text t.place)) in
-    cond (leb n greatest_number) (cond over (stopped_term 4 t.place met) (gone_term (number_code (signed negative n)) (past t.place) met)) (stopped_term 3 t.place met)
+    cond (leb n greatest_number) (cond over (Err (record { refusal = OverSize; place = t.place })) (Ok (record { number = number_code (signed negative n); behind = past t.place; met = met }))) (Err (record { refusal = LargeNumber; place = t.place }))

@@ -20,10 +20,9 @@ pub fn onward(cursor: Cursor, at: Place, over: bool, met: usize) -> Cursor
     ensures { result ≡ onward cursor at over met }
 {
     Cursor {
-        base: cursor.base,
         at,
-        ground: cursor.ground,
         over,
         met,
+        ..cursor
     }
 }

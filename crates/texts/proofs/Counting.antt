@@ -171,7 +171,3 @@ behind_start p b = go (eqb b 10)
     go : (t : Bool) → (cond t (record { start = p.start + 1; len = 0; line = p.line + 1; column = 1 }) (along p (p.start + 1))).start ≡ p.start + 1
     go true = refl
     go false = refl
-
--- reading goes on
-pub behind_less : (n : ℕ) (p r : Place) (b : ℕ) → r ≡ behind p b → p.start < n → n - r.start < n - p.start
-behind_less n p r b e h = rw (e, behind_start p b) (omega arith)

@@ -4,3 +4,4 @@ pub mod Prefix
 pub mod Place
 pub mod Places
 pub mod Parts
+pub mod Refusal

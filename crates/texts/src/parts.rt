@@ -35,13 +35,12 @@ pub fn same_bytes(a: &[u8], b: &[u8]) -> bool
     if a.len() != b.len() {
         return false;
     }
-    let mut seen = 0;
-    while seen < a.len() {
+    // Counted up: of `(0..a.len()).rev()` the compiler makes an instruction more for each byte.
+    for seen in 0..a.len() {
         let i = a.len() - 1 - seen;
         if a[i] != b[i] {
             return false;
         }
-        seen += 1;
     }
     true
 }
@@ -50,8 +49,5 @@ pub fn same_bytes(a: &[u8], b: &[u8]) -> bool
 pub fn least(count: usize, most: usize) -> usize
     ensures { result ≡ min count most }
 {
-    if count < most {
-        return count;
-    }
-    most
+    count.min(most)
 }

@@ -20,7 +20,7 @@ pub struct Span {
     pub len: usize,
 }
 
-// Empty, at a text's start: where reading begins, and the part of an answer that names none.
+// Empty, at a text's start: where reading begins, and the place of a fault that no part of the text holds.
 pub const TEXT_START: Place = Place {
     start: 0,
     len: 0,
@@ -32,12 +32,7 @@ pub const TEXT_START: Place = Place {
 pub fn with_len(place: Place, len: usize) -> Place
     ensures { result ≡ with_len place len }
 {
-    Place {
-        start: place.start,
-        len,
-        line: place.line,
-        column: place.column,
-    }
+    Place { len, ..place }
 }
 
 // A byte further on the same line.
@@ -62,6 +57,7 @@ pub fn past(place: Place) -> Place
 }
 
 // Behind a byte: a newline ends its line, and every other byte is one column.
+#[tactic(auto, unfolding(crate::specs::Place::behind))]
 pub fn behind(place: Place, byte: u8) -> Place
     requires { Countable place (suc place.start) }
     ensures { result ≡ behind place byte }

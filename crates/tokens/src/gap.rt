@@ -24,8 +24,7 @@ fn blanks_end(text: &[u8], at: Place) -> Place
     ensures { (result.start ≡ at.start + prefix_len (is_blank true) (drop at.start text.now)) × Stands text.now result }
 {
     let mut end = at;
-    while end.start < text.len() {
-        let here = end.start;
+    for here in at.start..text.len() {
         let byte = text[here];
         if !is_blank(byte, true) {
             return end;

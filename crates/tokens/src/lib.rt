@@ -7,7 +7,7 @@ ghost use Rattle.lexis.specs.Strings.{closing};
 ghost use Rattle.tokens.specs.Token.{standing, mark_at, string_at, other_at, token_at, next_token};
 
 use lexis::class::{Class, class_of};
-use lexis::kind::{Kind, STRAY, kind_number, name_kind, pair_kind, single_kind};
+use lexis::kind::{Kind, name_kind, pair_kind, single_kind};
 use lexis::run::{Run, byte_at, run_end};
 use lexis::string::closing;
 use texts::place::{Place, with_len};
@@ -32,29 +32,31 @@ fn placed(kind: Kind, at: Place, len: usize) -> Token
 }
 
 // The mark that starts at `at` with the byte `first`, where `second` comes after it: of two bytes where there is such a one.
+#[tactic(auto, unfolding(crate::specs::Token::mark_at))]
 fn mark_at(at: Place, first: u8, second: u8) -> Token
     ensures { result ≡ mark_at at first second }
 {
     let pair = pair_kind(first, second);
-    if kind_number(pair) == STRAY {
+    if pair == Kind::Stray {
         return placed(single_kind(first), at, 1);
     }
     placed(pair, at, 2)
 }
 
 // The string that the quote at `at` opens, or that quote alone where it opens none.
+#[tactic(auto, unfolding(crate::specs::Token::string_at))]
 fn string_at(text: &[u8], at: Place) -> Token
     requires { at.start < length text.now }
     ensures { result ≡ string_at at (closing false (drop (at.start + 1) text.now)) }
 {
-    let end = closing(text, at.start + 1);
-    if end == 0 {
-        return placed(Kind::Stray, at, 1);
+    match closing(text, at.start + 1) {
+        Some(end) => placed(Kind::String, at, end + 1),
+        None => placed(Kind::Stray, at, 1),
     }
-    placed(Kind::String, at, end + 1)
 }
 
 // The string or the mark that starts at `at` with the byte `first`.
+#[tactic(auto, unfolding(crate::specs::Token::other_at))]
 fn other_at(text: &[u8], at: Place, first: u8) -> Token
     requires { at.start < length text.now }
     ensures { result ≡ other_at at first (drop (at.start + 1) text.now) }
@@ -106,6 +108,7 @@ fn token_at(text: &[u8], at: Place) -> Token
 
 // The first token at or after `at`, in a program or on a facts line. At `%*`, and on a facts line, a `%` is a stray byte, and so is
 // a newline there. At the end of the text the token is `End`, empty at the text's length.
+#[tactic(auto, unfolding(crate::specs::Token::next_token))]
 pub fn next_token(text: &[u8], at: Place, program: bool) -> Token
     requires { Stands text.now at }
     ensures { result ≡ next_token program text.now at.start }

@@ -2,11 +2,11 @@
 use crate::places::is_kept;
 use crate::print::{ending, number, place, refused, say};
 use derived_set::{Derived, PLACES};
-use fields::answer::{Answer, Kind, Part, Text};
+use fields::answer::{Answer, Part, Text};
 use std::io;
 use std::io::Write;
-use texts::parts::least;
-use texts::sizes::MOST_LITERALS;
+use texts::place::TEXT_START;
+use texts::refusal::Refusal;
 
 // A blank and a number of a list.
 fn item(out: &mut impl Write, n: u64) -> io::Result<()> {
@@ -14,36 +14,21 @@ fn item(out: &mut impl Write, n: u64) -> io::Result<()> {
     number(out, n)
 }
 
-fn round(out: &mut impl Write, n: u16) -> io::Result<()> {
-    item(out, n as u64)
+// A verdict, and the place that stands where a refusal has its part: empty, at the program's start.
+fn verdict(out: &mut impl Write, name: &[u8]) -> io::Result<()> {
+    say(out, name)?;
+    place(out, b"program", TEXT_START)
 }
 
 // How many places an acceptance writes: one for each atom, and none where no rounds are given.
-fn rounds_written(answer: Answer) -> usize {
-    if answer.rounds == 0 {
-        return 0;
-    }
-    answer.atoms
+fn rounds_written(atoms: usize, rounds: usize) -> usize {
+    if rounds == 0 { 0 } else { atoms }
 }
 
 // The first places, as many as are written.
 fn each(out: &mut impl Write, places: &[u16], written: usize) -> io::Result<()> {
-    let count = least(written, places.len());
-    for at in 0..count {
-        round(out, places[at])?;
-    }
-    Ok(())
-}
-
-fn first_positions(
-    out: &mut impl Write,
-    positions: [u64; MOST_LITERALS],
-    count: usize,
-) -> io::Result<()> {
-    for at in 0usize..MOST_LITERALS {
-        if at < count {
-            item(out, positions[at])?;
-        }
+    for round in places.iter().take(written) {
+        item(out, u64::from(*round))?;
     }
     Ok(())
 }
@@ -58,8 +43,9 @@ fn members(out: &mut impl Write, kept: Derived) -> io::Result<()> {
     Ok(())
 }
 
-// The text's name, and the place in it.
-fn part(out: &mut impl Write, part: Part) -> io::Result<()> {
+// The refusal, the text's name, and the place in it.
+fn refusal_of(out: &mut impl Write, refusal: Refusal, part: Part) -> io::Result<()> {
+    refused(out, refusal)?;
     let at = part.place;
     let text = part.text;
     match text {
@@ -68,70 +54,59 @@ fn part(out: &mut impl Write, part: Part) -> io::Result<()> {
     }
 }
 
-fn accepted(
-    out: &mut impl Write,
-    answer: Answer,
-    places: &[u16],
-    written: usize,
-) -> io::Result<()> {
+fn accepted(out: &mut impl Write, atoms: usize, rounds: usize, places: &[u16]) -> io::Result<()> {
+    verdict(out, b"ACCEPTED")?;
     say(out, b" atoms ")?;
-    number(out, answer.atoms as u64)?;
+    number(out, atoms as u64)?;
     say(out, b" rounds ")?;
-    number(out, answer.rounds as u64)?;
+    number(out, rounds as u64)?;
     say(out, b" each")?;
-    each(out, places, written)
+    each(out, places, rounds_written(atoms, rounds))
 }
 
-fn unsatisfied(out: &mut impl Write, answer: Answer) -> io::Result<()> {
-    let positions = answer.positions;
+fn unsatisfied(
+    out: &mut impl Write,
+    rule: usize,
+    positions: &[u64],
+    count: usize,
+) -> io::Result<()> {
+    verdict(out, b"UNSATISFIED")?;
     say(out, b" rule ")?;
-    number(out, answer.rule as u64)?;
+    number(out, rule as u64)?;
     say(out, b" body")?;
-    first_positions(out, positions, answer.count)
-}
-
-// What stands before the part: the verdict, or REFUSED and its number.
-fn title(out: &mut impl Write, kind: Kind, code: u8) -> io::Result<()> {
-    match kind {
-        Kind::Refused => refused(out, code),
-        Kind::Accepted => say(out, b"ACCEPTED"),
-        Kind::Unsatisfied => say(out, b"UNSATISFIED"),
-        Kind::Smaller => say(out, b"SMALLER"),
-        Kind::ClaimedNone => say(out, b"CLAIMED-NONE"),
-        Kind::ClaimedUnknown => say(out, b"CLAIMED-UNKNOWN"),
+    for position in positions.iter().take(count) {
+        item(out, *position)?;
     }
+    Ok(())
 }
 
-// The values that the verdict names: how many places it writes.
+fn smaller(out: &mut impl Write, kept: Derived) -> io::Result<()> {
+    verdict(out, b"SMALLER")?;
+    say(out, b" atoms")?;
+    members(out, kept)
+}
+
+// All but the line's end: how many places the answer writes.
 fn values(out: &mut impl Write, answer: Answer, places: &[u16]) -> io::Result<usize> {
-    let kind = answer.kind;
-    match kind {
-        Kind::Accepted => {
-            let written = rounds_written(answer);
-            accepted(out, answer, places, written)?;
-            Ok(written)
+    match answer {
+        Answer::Refused { refusal, part } => refusal_of(out, refusal, part)?,
+        Answer::Accepted { atoms, rounds } => {
+            accepted(out, atoms, rounds, places)?;
+            return Ok(rounds_written(atoms, rounds));
         }
-        Kind::Unsatisfied => {
-            unsatisfied(out, answer)?;
-            Ok(0)
-        }
-        Kind::Smaller => {
-            let kept = answer.kept;
-            say(out, b" atoms")?;
-            members(out, kept)?;
-            Ok(0)
-        }
-        Kind::Refused => Ok(0),
-        Kind::ClaimedNone => Ok(0),
-        Kind::ClaimedUnknown => Ok(0),
+        Answer::Unsatisfied {
+            rule,
+            count,
+            positions,
+        } => unsatisfied(out, rule, &positions, count)?,
+        Answer::Smaller { kept } => smaller(out, kept)?,
+        Answer::ClaimedNone => verdict(out, b"CLAIMED-NONE")?,
+        Answer::ClaimedUnknown => verdict(out, b"CLAIMED-UNKNOWN")?,
     }
+    Ok(0)
 }
 
 pub fn report(out: &mut impl Write, answer: Answer, places: &[u16]) -> io::Result<()> {
-    let kind = answer.kind;
-    let handed = answer.part;
-    title(out, kind, answer.number)?;
-    part(out, handed)?;
     let written = values(out, answer, places)?;
     ending(out, is_kept(places, written))
 }

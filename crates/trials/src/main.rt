@@ -56,11 +56,10 @@ fn one(
     places: &mut [u16],
 ) -> io::Result<bool> {
     let mut line = [0u8; MOST_LINE];
-    let read = read_line(input, &mut line)?;
-    if read.ended {
+    let Some(len) = read_line(input, &mut line)? else {
         return Ok(false);
-    }
-    let known = answer(input, out, words(&line, read.len), texts, buffer, places)?;
+    };
+    let known = answer(input, out, words(&line, len), texts, buffer, places)?;
     if !known {
         say(out, b"BAD FRAME\n")?;
     }

@@ -1,20 +1,34 @@
-// The places that a frame lends to the check: what they are before the call, and whether they are kept.
+// The buffers that a frame lends: what they are before the call, and whether they are kept.
 
-// What a place is before the call: no two places that a frame may lend are alike, and none is like a round.
-fn pattern(at: usize) -> u16 {
-    (23040 + at % 4096) as u16
+// What an element of a buffer is before the call, by its place.
+pub trait Pattern: Copy + PartialEq {
+    fn pattern(at: usize) -> Self;
 }
 
-pub fn fill(places: &mut [u16]) {
-    for at in 0..places.len() {
-        places[at] = pattern(at);
+// No two places that a frame may lend to the check are alike, and none is like a round.
+impl Pattern for u16 {
+    fn pattern(at: usize) -> Self {
+        (23040 + at % 4096) as u16
     }
 }
 
-// Is every place from one on as it was before the call?
-pub fn is_kept(places: &[u16], from: usize) -> bool {
-    for at in from..places.len() {
-        if places[at] != pattern(at) {
+// A byte of the writer's buffer.
+impl Pattern for u8 {
+    fn pattern(at: usize) -> Self {
+        (7 + at % 241) as u8
+    }
+}
+
+pub fn fill<T: Pattern>(buffer: &mut [T]) {
+    for (at, element) in buffer.iter_mut().enumerate() {
+        *element = T::pattern(at);
+    }
+}
+
+// Is every element from one on as it was before the call?
+pub fn is_kept<T: Pattern>(buffer: &[T], from: usize) -> bool {
+    for (at, element) in buffer.iter().enumerate().skip(from) {
+        if *element != T::pattern(at) {
             return false;
         }
     }

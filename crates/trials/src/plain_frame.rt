@@ -1,48 +1,32 @@
 // The frame `plain ROOM PROGRAM-LENGTH`: the program's plain form, written into a buffer of that room.
+use crate::places::{fill, is_kept};
 use crate::print::{ending, number, place, refused, say};
-use frames::{MOST_BYTES, behind_word, ends_with, newline, number_behind, read_bytes};
-use plain::{Written, write_plain};
+use frames::{MOST_BYTES, ends_with, newline, number_behind, read_bytes};
+use plain::write_plain;
 use std::io;
 use std::io::{Read, Write};
 use texts::parts::bytes_in;
-use texts::place::span_from;
+use texts::place::{TEXT_START, span_from};
+use texts::refusal::Refused;
 
-// What a byte of the buffer is before the call.
-fn pattern(at: usize) -> u8 {
-    (7 + at % 241) as u8
-}
-
-fn fill(buffer: &mut [u8]) {
-    for at in 0..buffer.len() {
-        buffer[at] = pattern(at);
-    }
-}
-
-// Is every byte from a place on as it was before the call?
-fn is_kept(buffer: &[u8], from: usize) -> bool {
-    for at in from..buffer.len() {
-        if buffer[at] != pattern(at) {
-            return false;
+// A plain form that is written has an empty part, at the program's start.
+fn report(out: &mut impl Write, written: Result<usize, Refused>, buffer: &[u8]) -> io::Result<()> {
+    match written {
+        Ok(length) => {
+            say(out, b"WRITTEN")?;
+            place(out, b"program", TEXT_START)?;
+            say(out, b" length ")?;
+            number(out, length as u64)?;
+            ending(out, is_kept(buffer, length))?;
+            say(out, bytes_in(buffer, span_from(0, length)))?;
+            say(out, b"\n")
+        }
+        Err(fault) => {
+            refused(out, fault.refusal)?;
+            place(out, b"program", fault.place)?;
+            ending(out, is_kept(buffer, 0))
         }
     }
-    true
-}
-
-fn report(out: &mut impl Write, written: Written, buffer: &[u8]) -> io::Result<()> {
-    let at = written.place;
-    if written.code != 0 {
-        refused(out, written.code)?;
-        place(out, b"program", at)?;
-        return ending(out, is_kept(buffer, 0));
-    }
-    let length = written.length;
-    say(out, b"WRITTEN")?;
-    place(out, b"program", at)?;
-    say(out, b" length ")?;
-    number(out, length as u64)?;
-    ending(out, is_kept(buffer, length))?;
-    say(out, bytes_in(buffer, span_from(0, length)))?;
-    say(out, b"\n")
 }
 
 fn trial(out: &mut impl Write, program: &[u8], buffer: &mut [u8]) -> io::Result<()> {
@@ -59,8 +43,12 @@ pub fn answer(
     texts: &mut [u8],
     buffer: &mut [u8],
 ) -> io::Result<bool> {
-    let room = number_behind(line, behind_word(5), MOST_BYTES);
-    let length = number_behind(line, room, MOST_BYTES);
+    let Some(room) = number_behind(line, 5, MOST_BYTES) else {
+        return Ok(false);
+    };
+    let Some(length) = number_behind(line, room.next, MOST_BYTES) else {
+        return Ok(false);
+    };
     if !ends_with(line, length) {
         return Ok(false);
     }

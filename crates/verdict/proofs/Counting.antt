@@ -1,15 +1,20 @@
 -- Positions that are counted from 1, one after the other.
 use mathlib.Core.Path.{◌≡◌, refl, sym, ap, ◌∙◌}
-use mathlib.Core.List.{List, [], ◌∷◌, map}
+use mathlib.Core.List.{List, map}
 use Prim.Native.Nat.{ℕ, zero, suc, ◌+◌, ◌<◌, min}
 use native.Mathlib.Decide.{ℕ_discrete}
 use native.Mathlib.Numerals.{add-one}
 use native.Mathlib.Omega.{arith}
 use lib.ListN.{length, get_or, set, take, replicate, length-set, length-take, length-map}
+use Rattle.std.proofs.lemmas.List.{get_or-map}
 use lib.Seq.{get_or-set_same, get_or-set_other, get_or-take, ext_get_or}
 use Rattle.grammar.specs.Sizes.{most_literals}
-use Rattle.fields.proofs.Saying.{zeros}
 use Rattle.verdict.specs.Told.{FromOne}
+
+zeros : (n k : ℕ) → ◌≡◌ {A = ℕ} (get_or (replicate n 0) k 0) 0
+zeros zero k = refl
+zeros (suc n) zero = refl
+zeros (suc n) (suc k) = zeros n k
 
 pub counted_none : (ps : List ℕ) → length ps ≡ most_literals → FromOne 0 ps (replicate most_literals 0)
 counted_none ps room = record { room = room; long = refl; each = λ i l. absurd (omega arith); behind = λ i l. zeros most_literals i }
@@ -26,14 +31,6 @@ counted_more ps qs i l c =
       behind = λ j k. get_or-set_other qs i j _ 0 (λ e. omega (arith, e)) ∙ c.behind j (omega arith);
     }
 
-pub counted_all : (n : ℕ) (ps qs : List ℕ) (i : ℕ) → n ≡ i → FromOne i ps qs → FromOne n ps qs
-counted_all n ps qs i e h = rw e h
-
-get_d_mapped : (f : ℕ → ℕ) (l : List ℕ) (i : ℕ) → i < length l → get_or (map f l) i 0 ≡ f (get_or l i 0)
-get_d_mapped f [] i h = absurd (omega arith)
-get_d_mapped f (x ∷ xs) zero h = refl
-get_d_mapped f (x ∷ xs) (suc i) h = get_d_mapped f xs i (omega arith)
-
 -- the positions as the paper has them
 pub from_one_taken : (n : ℕ) (ps qs : List ℕ) → FromOne (min n most_literals) ps qs → take (min n most_literals) qs ≡ map suc (take n ps)
 from_one_taken n ps qs h =
@@ -41,4 +38,4 @@ from_one_taken n ps qs h =
     ext_get_or 0 (take (min n most_literals) qs) (map suc (take n ps)) long (λ i l.
     let few : i < min n most_literals = omega (arith, l, length-take (min n most_literals) qs) in
     let inside : i < length (take n ps) = omega (arith, l, long, length-map (take n ps) suc) in
-    get_or-take (min n most_literals) qs i 0 few ∙ h.each i few ∙ add-one (get_or ps i 0) ∙ ap suc (sym (get_or-take n ps i 0 (omega (arith, few)))) ∙ sym (get_d_mapped suc (take n ps) i inside))
+    get_or-take (min n most_literals) qs i 0 few ∙ h.each i few ∙ add-one (get_or ps i 0) ∙ ap suc (sym (get_or-take n ps i 0 (omega (arith, few)))) ∙ sym (get_or-map suc (take n ps) i 0 0 inside))

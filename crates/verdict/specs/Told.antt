@@ -3,12 +3,14 @@ use Rattle.std.specs.Prelude.{◌≡◌, false, List, ℕ, ◌+◌, ◌^◌, ◌
 use Rattle.meaning.specs.Rules.{Bytes}
 use Rattle.grammar.specs.Sizes.{most_literals}
 use Rattle.rule_places.specs.Sentences.{sentence}
+use Rattle.texts.specs.declared.refusal.Refusal.TheVariants as refusals
+use Rattle.derived_set.specs.declared.Derived.{Derived}
 use Rattle.judge.specs.declared.Judgement.{Judgement}
-use Rattle.judge.specs.declared.Kind as judged
-use Rattle.judge.specs.declared.Kind.TheVariants.{OutOfRange, Unsatisfied, Accepted, Minimal, Smaller}
+use Rattle.judge.specs.declared.Judgement.TheVariants.{OutOfRange, Unsatisfied, Accepted, Minimal, Smaller}
 use Rattle.fields.specs.declared.answer.Text.TheVariants.{Program}
+use Rattle.fields.specs.declared.answer.Answer.TheVariants as answers
 use Rattle.fields.specs.declared.answer.Answer.{Answer}
-use Rattle.fields.specs.Values.{refused, accepted, unsatisfied, smaller}
+use Rattle.fields.specs.Values.{refused}
 
 -- the first n positions from 1, where they were from 0, and zeros behind them
 pub record FromOne (n : ℕ) (ps qs : List ℕ) : Type 0 where
@@ -18,18 +20,21 @@ pub record FromOne (n : ℕ) (ps qs : List ℕ) : Type 0 where
   pub behind : (i : ℕ) → n ≤ i → get_or qs i 0 ≡ 0
 
 -- the rule and the positions of a broken instance have room for one more
-pub record Small (j : Judgement) : Type 0 where
-  pub rule : j.kind ≡ Unsatisfied → j.rule < 1_024
-  pub positions : j.kind ≡ Unsatisfied → (i : ℕ) → i < j.length → i < most_literals → get_or j.positions i 0 < 1_024
+abbrev pub Small : Judgement → Type 0
+Small (OutOfRange rule) = Unit {0}
+Small (Unsatisfied rule long positions) = (rule < 1_024) × ((i : ℕ) → i < long → i < most_literals → get_or positions i 0 < 1_024)
+Small (Accepted rounds) = Unit {0}
+Small Minimal = Unit {0}
+Small (Smaller set) = Unit {0}
 
 -- as many positions as a judgement has, and there is room for
-abbrev pub positions_of : Judgement → ℕ
-positions_of j = min j.length most_literals
+abbrev pub positions_of : (long : ℕ) → ℕ
+positions_of long = min long most_literals
 
 -- by the kind of the judgement, beside n atoms
-pub data Tells (text : Bytes) (j : Judgement) (n : ℕ) : judged.Kind → Answer → Type 0 where
-  leaves_range : Tells text j n OutOfRange (refused 8 Program (sentence false text j.rule))
-  is_broken : (ps : List ℕ) → FromOne (positions_of j) j.positions ps → Tells text j n Unsatisfied (unsatisfied (j.rule + 1) (positions_of j) ps)
-  is_accepted : Tells text j n Accepted (accepted n j.rounds)
-  is_minimal : Tells text j n Minimal (accepted n 0)
-  is_smaller : length j.set.words ≡ 16 → ((k : ℕ) → get_or j.set.words k 0 < 2 ^ 64) → Tells text j n Smaller (smaller j.set)
+pub data Tells (text : Bytes) (n : ℕ) : Judgement → Answer → Type 0 where
+  leaves_range : (rule : ℕ) → Tells text n (OutOfRange rule) (refused Program (record { refusal = refusals.OutOfRange; place = sentence false text rule }))
+  is_broken : (rule long : ℕ) (positions ps : List ℕ) → FromOne (positions_of long) positions ps → Tells text n (Unsatisfied rule long positions) (answers.Unsatisfied (rule + 1) (positions_of long) ps)
+  is_accepted : (rounds : ℕ) → Tells text n (Accepted rounds) (answers.Accepted n rounds)
+  is_minimal : Tells text n Minimal (answers.Accepted n 0)
+  is_smaller : (set : Derived) → length set.words ≡ 16 → ((k : ℕ) → get_or set.words k 0 < 2 ^ 64) → Tells text n (Smaller set) (answers.Smaller set)

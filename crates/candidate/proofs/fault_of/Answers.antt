@@ -1,10 +1,5 @@
--- `fault_of` meets its contract: no fault, or the place of the fact that clashes. Assumes nothing.
-use mathlib.Core.Path.{refl}
+-- `fault_of` meets its contract: the refusal of the clash, and the place of its fact. Assumes nothing.
 use Rattle.candidate.proofs.fault_of.Goals as goal
 
-pub returns-then-number-eq-NONE : goal.returns-then-number-eq-NONE
-returns-then-number-eq-NONE c = (refl, λ z. absurd (z c.if-number-eq-NONE.true))
-
-pub fact_part-place-requires : goal.fact_part-place-requires
-fact_part-place-requires c =
-    c.requires c.if-number-eq-NONE.false
+pub returns : goal.returns
+returns c = rw (c.refusal_of.ensures, c.fact_part-place.ensures)

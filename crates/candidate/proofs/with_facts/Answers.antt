@@ -14,11 +14,11 @@ few : (several : Bool) (facts : ℕ) → (several ≡ true × facts ≤ most_tes
 few several facts (inl w) t = w.1
 few several facts (inr one) t = absurd (true≢false (sym t ∙ one))
 
-pub returns-then-fault-ne-NONE : goal.returns-then-fault-ne-NONE
-returns-then-fault-ne-NONE c = λ line P I s clash of placed. by_clash _ _ _ _ _ _ clash of P I s line _ c.if-fault-ne-NONE.true placed _ (search rules)
+pub returns-in-Some : goal.returns-in-Some
+returns-in-Some c = λ line P I s clash of. by_clash _ _ _ _ _ _ clash P I s line of _ _ c.in-Some.is _ (search rules)
 
 pub returns-then-places-counts : goal.returns-then-places-counts
-returns-then-places-counts c = λ line P I s clash of placed. by_room _ _ _ _ _ _ clash of P I s line _ (search rules) c.if-places-counts.true _ (search rules)
+returns-then-places-counts c = λ line P I s clash of. by_room _ _ _ _ _ _ clash P I s line of _ (search rules) c.if-places-counts.true _ (search rules)
 
 pub several_heads-several-requires : goal.several_heads-several-requires
 several_heads-several-requires c =
@@ -27,12 +27,12 @@ several_heads-several-requires c =
 
 pub returns-then-counts-gt-MOST_TESTED_FACTS : goal.returns-then-counts-gt-MOST_TESTED_FACTS
 returns-then-counts-gt-MOST_TESTED_FACTS c =
-    λ line P I s clash of placed. by_subsets _ _ _ _ _ _ clash of P I s line _ c.if-fault-ne-NONE.false c.if-places-counts.false _ c.several_heads-several.ensures c.if-several.true (let many : most_tested < c.args.counts.facts = omega (arith, c.if-counts-gt-MOST_TESTED_FACTS.true) in many) _ c.refused-then-counts-gt-MOST_TESTED_FACTS.ensures
+    λ line P I s clash of. by_subsets _ _ _ _ _ _ clash P I s line of _ c.in_default.not-Some c.if-places-counts.false _ c.several_heads-several.ensures c.if-several.true (let many : most_tested < c.args.counts.facts = omega (arith, c.if-counts-gt-MOST_TESTED_FACTS.true) in many) _ c.refused-then-counts-gt-MOST_TESTED_FACTS.ensures
 
 pub settled-requires : goal.settled-requires
 settled-requires c =
-    settling _ _ _ _ _ _ _ c.requires c.if-fault-ne-NONE.false c.if-places-counts.false c.several_heads-several.ensures (few _ _ c.else-several.either)
+    settling _ _ _ _ _ _ _ c.requires c.in_default.not-Some c.if-places-counts.false c.several_heads-several.ensures (few _ _ c.else-several.either)
 
 pub returns : goal.returns
 returns c =
-    λ line P I s clash of placed. by_stages _ _ _ _ _ _ clash of P I s line _ c.if-fault-ne-NONE.false c.if-places-counts.false _ c.several_heads-several.ensures (few _ _ c.else-several.either) _ _ (c.settled.ensures P I s)
+    λ line P I s clash of. by_stages _ _ _ _ _ _ clash P I s line of _ c.in_default.not-Some c.if-places-counts.false _ c.several_heads-several.ensures (few _ _ c.else-several.either) _ _ (c.settled.ensures P I s)

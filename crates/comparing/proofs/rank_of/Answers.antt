@@ -1,8 +1,6 @@
 -- `rank_of` meets its contract: the place is inside the ranks. Assumes nothing.
-use mathlib.Core.Path.{ap}
 use Prim.Native.Nat.{◌<◌}
-use lib.ListN.{length, get_or}
-use native.Mathlib.Omega.{arith}
+use lib.ListN.{length}
 use borrow.Author.Rules.{rules}
 use Rattle.codes.proofs.Order.{text_inside}
 use Rattle.comparing.proofs.rank_of.Goals as goal
@@ -16,11 +14,4 @@ offset_bounds-ranks-place_of c =
     search rules
 
 pub bounds-ranks-place_of : goal.bounds-ranks-place_of
-bounds-ranks-place_of c =
-    rw c.place_of.ensures (text_inside _ c.args.code c.requires).1
-
-pub overflow_cast-result : goal.overflow_cast-result
-overflow_cast-result c = omega (arith, c.shared_slice_known-2-1.given c.place_of.result)
-
-pub returns : goal.returns
-returns c = ap (λ place. get_or c.args.ranks.now place 0) c.place_of.ensures
+bounds-ranks-place_of c = rw c.place_of.ensures (text_inside _ c.args.code c.requires).1

@@ -1,7 +1,6 @@
 -- `judge` meets its contract: the search for operations that leave the range, then the verdict. Assumes nothing.
-use mathlib.Core.Path.{refl, sym, ap, ◌∙◌}
+use mathlib.Core.Path.{refl, sym, ◌∙◌}
 use borrow.Author.Rules.{rules}
-use Rattle.judge.specs.declared.Judgement.{Judgement}
 use Rattle.judge.proofs.Verdicts.{judged_over, over_at, over_none, cut_wide}
 use Rattle.judge.proofs.judge.Goals as goal
 
@@ -12,7 +11,7 @@ pub first_stop-over-requires : goal.first_stop-over-requires
 first_stop-over-requires c = let largest = rw c.facts.ensures at c.largest-most.ensures in (record { tables = c.requires.0; modest = largest.0; largest = largest.1 }, search rules)
 
 pub returns-then-over-total : goal.returns-then-over-total
-returns-then-over-total c = λ names k. judged_over names _ _ _ _ _ (ap (λ (j : Judgement). j.kind) c.blank-out.ensures) _ (over_at _ _ _ _ _ _ c.first_stop-over.ensures names k refl c.if-over-total.true)
+returns-then-over-total c = λ names k. judged_over names _ _ _ _ _ _ (over_at _ _ _ _ _ _ c.first_stop-over.ensures names k refl c.if-over-total.true)
 
 pub tested-requires : goal.tested-requires
 tested-requires c =

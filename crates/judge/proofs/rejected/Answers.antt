@@ -11,4 +11,4 @@ pub returns-then-rule-scan : goal.returns-then-rule-scan
 returns-then-rule-scan c = λ names k. inl (shows_broken _ _ _ _ _ _ c.first_stop-rule.ensures names k c.requires.1 c.if-rule-scan.true _ c.broken_at.ensures)
 
 pub returns : goal.returns
-returns c = λ names k. inr (shows_set _ _ _ _ _ _ c.first_stop-rule.ensures names k c.requires.1 (omega (arith, c.if-rule-scan.false)) _ _ c.smaller_set.ensures)
+returns c = λ names k. inr (shows_set _ _ _ _ _ _ c.first_stop-rule.ensures names k c.requires.1 (omega (arith, c.if-rule-scan.false)) _)

@@ -13,15 +13,12 @@ returns-then-rule-scan c =
     let a = c.args in
     λ rounds names k in-range. judged_broken names (rules_for a.store.now a.scan.total) (facts_in a.store.now) a.scan.count in-range rounds _ (shows_broken _ _ _ _ _ _ c.first_stop-rule.ensures names k c.requires.1 c.if-rule-scan.true _ c.broken_at.ensures)
 
-pub least_smaller-smaller-requires : goal.least_smaller-smaller-requires
-least_smaller-smaller-requires c = (c.requires.0.tables, c.requires.2)
-
-pub returns-then-smaller : goal.returns-then-smaller
-returns-then-smaller c =
+pub returns-in-Some : goal.returns-in-Some
+returns-in-Some c =
     let a = c.args in
-    λ rounds names k in-range. rw c.smaller_set.ensures (judged_shown a.ranks.now a.store.now a.scan.count a.scan.total c.requires.3 _ c.least_smaller-smaller.ensures names k in-range (broken_none _ _ _ _ _ _ c.first_stop-rule.ensures names k c.requires.1 (omega (arith, c.if-rule-scan.false))) rounds c.if-smaller.true)
+    λ rounds names k in-range. judged_shown a.ranks.now a.store.now a.scan.count a.scan.total c.requires.3 names k in-range (broken_none _ _ _ _ _ _ c.first_stop-rule.ensures names k c.requires.1 (omega (arith, c.if-rule-scan.false))) rounds c.in-Some.set c.in-Some.ensures
 
-pub returns : goal.returns
-returns c =
+pub returns-in-None : goal.returns-in-None
+returns-in-None c =
     let a = c.args in
-    λ rounds names k in-range. rw c.blank.ensures (judged_minimal a.ranks.now a.store.now a.scan.count a.scan.total c.requires.3 _ c.least_smaller-smaller.ensures names k in-range (broken_none _ _ _ _ _ _ c.first_stop-rule.ensures names k c.requires.1 (omega (arith, c.if-rule-scan.false))) rounds c.if-smaller.false)
+    λ rounds names k in-range. judged_minimal a.ranks.now a.store.now a.scan.count a.scan.total c.requires.3 names k in-range (broken_none _ _ _ _ _ _ c.first_stop-rule.ensures names k c.requires.1 (omega (arith, c.if-rule-scan.false))) rounds c.in-None.ensures

@@ -1,13 +1,13 @@
--- `larger` meets its contract. The invariant: the codes before place i are no larger. The measure is how many are left. Assumes nothing.
-use Rattle.magnitudes.proofs.Facts.{larger_none, larger_one, larger_all}
+-- `larger` meets its contract. Assumes nothing.
+use Rattle.std.proofs.Common.{rules}
+use Rattle.std.specs.List.{fold}
+use mathlib.Core.Path.{◌≡◌}
+use Prim.Native.Nat.{ℕ, max}
+use Rattle.magnitudes.specs.Sizes.{size}
+use Rattle.magnitudes.proofs.Facts.{larger_codes}
 use Rattle.magnitudes.proofs.larger.Goals as goal
 
-pub loop-i-init : goal.loop-i-init
-loop-i-init c = let a = c.args in larger_none a.codes.now a.most c.requires
-
-pub loop-i-preserved : goal.loop-i-preserved
-loop-i-preserved c =
-    let a = c.args in larger_one a.codes.now a.most c.loop-i.i c.loop-i.largest c.loop-i-test.true c.loop-i.invariant _ c.size.ensures _ c.max-largest.ensures
-
 pub returns : goal.returns
-returns c = let a = c.args in larger_all a.codes.now a.most c.loop-i.i c.loop-i.largest c.loop-i-test.false c.loop-i.invariant
+returns c =
+    let e : c.fold.result ≡ fold (λ (m x : ℕ). max m (size x)) c.args.most c.args.codes.now = search rules in
+    larger_codes c.args.codes.now c.args.most c.requires c.fold.result e

@@ -1,16 +1,9 @@
--- `largest` meets its contract. The invariant: the facts before k have no larger number. The measure is how many are left. Assumes nothing.
-use native.Mathlib.Omega.{arith}
+-- `largest` meets its contract. Assumes nothing.
 use Rattle.magnitudes.proofs.Facts.{most_none, most_one, most_all}
 use Rattle.magnitudes.proofs.largest.Goals as goal
 
 pub loop-k-init : goal.loop-k-init
 loop-k-init c = most_none c.args.facts.now c.args.count
-
-pub larger-most-requires : goal.larger-most-requires
-larger-most-requires c = c.loop-k.invariant.modest
-
-pub loop-k-smaller : goal.loop-k-smaller
-loop-k-smaller c = omega (arith, c.loop-k-test.true)
 
 pub loop-k-preserved : goal.loop-k-preserved
 loop-k-preserved c =

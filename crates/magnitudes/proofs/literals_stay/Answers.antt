@@ -1,24 +1,30 @@
--- `literals_stay` meets its contract. The invariant: the literals from the first on stay in range, if those from l on do. The measure is how many
--- are left. Assumes nothing.
-use mathlib.Core.Bool.{false≢true}
+-- `literals_stay` meets its contract. Assumes nothing.
+use mathlib.Core.Path.{◌≡◌, refl, ◌∙◌}
+use mathlib.Core.Bool.{false}
+use mathlib.Core.List.{List}
+use Prim.Native.Nat.{ℕ, ◌-◌}
 use native.Mathlib.Omega.{arith}
-use borrow.Author.Tests.{not-false}
-use Rattle.magnitudes.proofs.Bounds.{stay_on, stay_end}
+use lib.ListN.{get_or}
+use Rattle.std.proofs.Common.{rules, tests}
+use Rattle.std.specs.List.{range_with_len}
+use Rattle.std.proofs.lemmas.List.FromFn.{get_or-range_with_len, length-range_with_len}
+use Rattle.std.proofs.lemmas.Iterator.{YieldsList-from_range, cases_from_all}
+use Rattle.meaning.specs.Rules.{Bytes}
+use Rattle.meaning.specs.Matchings.{Values}
+use Rattle.meaning.specs.Quick.{literal_overflows}
+use Rattle.codes.specs.Domains.{codes, code_in_range}
+use Rattle.tables.specs.Rows.{literal_at}
+use Rattle.magnitudes.specs.Sizes.{Within}
+use Rattle.magnitudes.proofs.Bounds.{none_passes}
 use Rattle.magnitudes.proofs.literals_stay.Goals as goal
 
-pub loop-l-init : goal.loop-l-init
-loop-l-init c = (omega arith, λ s. s)
-
-pub literal_stays-requires : goal.literal_stays-requires
-literal_stays-requires c =
-    (c.requires.0 c.loop-l.l c.loop-l.invariant.0 c.loop-l-test.true, c.requires.1, c.requires.2)
-
-pub returns-then-not-literal_stays : goal.returns-then-not-literal_stays
-returns-then-not-literal_stays c = λ z. absurd (false≢true z)
-
-pub loop-l-preserved : goal.loop-l-preserved
-loop-l-preserved c =
-    let a = c.args in (omega (arith, c.loop-l.invariant.0), λ s. c.loop-l.invariant.1 (stay_on a.literals.now a.end c.loop-l.l a.bounds.now c.loop-l-test.true (c.literal_stays.ensures (not-false _ c.if-not-literal_stays.false-raw)) s))
-
 pub returns : goal.returns
-returns c = let a = c.args in λ z. c.loop-l.invariant.1 (stay_end a.literals.now a.end c.loop-l.l a.bounds.now c.loop-l-test.false)
+returns c =
+    λ z names ρ w.
+    let a = c.args in
+    let n = a.end - a.first in
+    let all = cases_from_all _ _ c.all.result (λ (l : ℕ). (names : List Bytes) (ρ : Values ℕ) → Within a.bounds.now ρ → literal_overflows (codes names) code_in_range ρ (literal_at a.literals.now l) ≡ false) (λ (l : ℕ). Unit {0}) c.all.ensures.ran (YieldsList-from_range a.first a.end n refl refl) (λ x q k. (search (rules, tests), search (rules, tests))) (λ x q k. tt) in
+    let stay = rw z at all in
+    none_passes (literal_overflows (codes names) code_in_range ρ) a.literals.now n a.first (λ l h k.
+    let e : get_or (range_with_len a.first n) (l - a.first) 0 ≡ l = get_or-range_with_len a.first n (l - a.first) 0 (omega arith) ∙ omega arith in
+    (rw e at (stay (l - a.first) 0 (omega arith) (omega (arith, length-range_with_len a.first n)))) names ρ w)

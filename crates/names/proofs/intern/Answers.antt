@@ -2,15 +2,16 @@
 use mathlib.Core.Path.{refl, sym, ◌∙◌}
 use mathlib.Core.Logic.{inl}
 use Rattle.meaning.proofs.Sets.{nothing_long}
-use Rattle.names.proofs.Interning.{interned_held, interned_full, addable, interned_new}
+use Rattle.names.specs.Numbering.{held}
+use Rattle.names.proofs.Interning.{interned_full, addable, interned_new}
 use Rattle.names.proofs.intern.Goals as goal
 
 pub returns-then-name-eq0 : goal.returns-then-name-eq0
 returns-then-name-eq0 c = (refl, inl (nothing_long _ c.if-name-eq0.true))
 
-pub returns-in-At : goal.returns-in-At
-returns-in-At c =
-    interned_held _ _ _ c.requires.0 c.args.start _ c.requires.1 _ c.seek-found.ensures c.in-At.field-0 c.in-At.is
+pub returns-in-Some : goal.returns-in-Some
+returns-in-Some c =
+    (c.requires.0, held c.in-Some.ensures, refl)
 
 pub count-number-requires : goal.count-number-requires
 count-number-requires c = c.requires.0.size
@@ -20,12 +21,12 @@ capacity-requires c = c.requires.0.size
 
 pub returns-then-number-capacity : goal.returns-then-number-capacity
 returns-then-number-capacity c =
-    interned_full _ _ _ c.requires.0 c.args.start _ c.requires.1 _ c.seek-found.ensures _ c.count-number.ensures c.in_default.is (c.if-number-capacity.true ∙ c.capacity.ensures)
+    interned_full _ _ _ c.requires.0 c.args.start _ c.requires.1 _ c.seek.ensures _ c.count-number.ensures c.in_default.is (c.if-number-capacity.true ∙ c.capacity.ensures)
 
 pub add-requires : goal.add-requires
 add-requires c =
-    rw c.span_from.ensures (addable _ _ _ c.requires.0 c.args.start _ c.requires.1 _ c.seek-found.ensures _ c.count-number.ensures c.in_default.is _ c.slot_of-slot.ensures c.if-name-eq0.false (λ e. c.if-number-capacity.false (e ∙ sym c.capacity.ensures)))
+    rw c.span_from.ensures (addable _ _ _ c.requires.0 c.args.start _ c.requires.1 _ c.seek.ensures _ c.count-number.ensures c.in_default.is _ c.slot_of-slot.ensures c.if-name-eq0.false (λ e. c.if-number-capacity.false (e ∙ sym c.capacity.ensures)))
 
 pub returns : goal.returns
 returns c =
-    rw (c.add.ensures, c.span_from.ensures) (interned_new _ _ _ c.requires.0 c.args.start _ c.requires.1 _ c.seek-found.ensures _ c.count-number.ensures c.in_default.is _ c.slot_of-slot.ensures c.if-name-eq0.false (λ e. c.if-number-capacity.false (e ∙ sym c.capacity.ensures)))
+    rw (c.add.ensures, c.span_from.ensures) (interned_new _ _ _ c.requires.0 c.args.start _ c.requires.1 _ c.seek.ensures _ c.count-number.ensures c.in_default.is _ c.slot_of-slot.ensures c.if-name-eq0.false (λ e. c.if-number-capacity.false (e ∙ sym c.capacity.ensures)))

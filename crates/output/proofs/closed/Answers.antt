@@ -1,16 +1,16 @@
 -- `closed` meets its contract: a refusal stays, and only behind what is none a line is looked for. Assumes nothing.
-use native.Mathlib.Omega.{arith}
-use mathlib.Core.Path.{refl}
+use mathlib.Core.Path.{refl, sym}
+use Rattle.std.proofs.lemmas.Result.{err_from_is_err_and}
 use Rattle.output.specs.Answers.{Closes}
-use Rattle.output.proofs.Stages.{closed_idle, closed_stray}
 use Rattle.output.proofs.closed.Goals as goal
 
-pub returns-then-said-ne0 : goal.returns-then-said-ne0
-returns-then-said-ne0 c = Closes.refuses (λ z. omega arith) refl
+pub returns-in_err-read : goal.returns-in_err-read
+returns-in_err-read c =
+    let p = err_from_is_err_and c.from_residual.result c.from_residual.ensures.1 in
+    rw (p.1, p.2) (Closes.refuses _ c.in_err-read.was (sym c.in_err-read.was))
 
 pub returns-in-End : goal.returns-in-End
-returns-in-End c = closed_idle _ _ _ c.out_of_place-found.ensures _ _ c.in-End.is
+returns-in-End c = Closes.closes _ c.in-End.ensures (sym c.in_ok-read.was)
 
 pub returns-in-Line : goal.returns-in-Line
-returns-in-Line c =
-    closed_stray _ _ _ c.out_of_place-found.ensures _ (omega arith) _ c.in-Line.is _ c.refused.ensures
+returns-in-Line c = Closes.stray _ c.in_ok-read.was _ c.in-Line.ensures refl

@@ -4,7 +4,7 @@ use Rattle.program.proofs.Loop.{over_size}
 use Rattle.program.proofs.read_program.Goals as goal
 
 pub returns-then-program-gt-MOST_TEXT : goal.returns-then-program-gt-MOST_TEXT
-returns-then-program-gt-MOST_TEXT c = let long = c.if-program-gt-MOST_TEXT.true in over_size (omega arith) c.refused.ensures
+returns-then-program-gt-MOST_TEXT c = let long = c.if-program-gt-MOST_TEXT.true in over_size (omega arith)
 
 pub read_rules-requires : goal.read_rules-requires
 read_rules-requires c =

@@ -4,8 +4,8 @@ use Prim.Native.Nat.{◌-◌}
 use Rattle.program.proofs.Loop.{Going}
 use Rattle.program.proofs.read_rules.Given as goal
 
-abbrev pub invariant-loop-places : goal.invariant-loop-places
-invariant-loop-places l = Going l.program l.output l.initial.names l.initial.rules l.initial.literals l.unbound l.at l.count l.names l.places l.rules l.literals
+abbrev pub invariant-loop-rule : goal.invariant-loop-rule
+invariant-loop-rule l = Going l.program l.output l.initial.names l.initial.rules l.initial.literals l.unbound l.at l.count l.names l.places l.rules l.literals
 
-abbrev pub decreases-loop-places : goal.decreases-loop-places
-decreases-loop-places l = 257 - l.count
+abbrev pub decreases-loop-rule : goal.decreases-loop-rule
+decreases-loop-rule l = 257 - l.count

@@ -18,4 +18,4 @@ pub returns : goal.returns
 returns c =
     let a = c.args in
     let names = names_of a.program.now a.output.now a.names.now in
-    subst (λ (l : List ℕ). Sorts names a.order.now l) (sym c.copy.ensures) (joined a.order.now a.middle names _ c.merge.ensures)
+    subst (λ (l : List ℕ). Sorts names a.order.now l) (sym c.copy_from_slice.ensures.after) (joined a.order.now a.middle names _ c.merge.ensures)

@@ -1,7 +1,7 @@
 -- `answer` meets its contract: the first of the lines behind ANSWER holds the facts, and the others begin behind it.
 -- Assumes nothing.
 use mathlib.Core.Path.{sym, ap, ap₂, ◌∙◌}
-use borrow.Author.Tests.{ltb-true, ltb-false, not-true, not-false}
+use borrow.Author.Tests.{ltb-true, ltb-false}
 use Rattle.report.specs.declared.word.Word.TheVariants.{Answer}
 use Rattle.report.specs.Report.{refused, found}
 use Rattle.report.proofs.Located.{its_place, behind_its}
@@ -10,17 +10,16 @@ use Rattle.report.proofs.answer.Goals as goal
 
 pub returns-then-not-has_line : goal.returns-then-not-has_line
 returns-then-not-has_line c =
-    let left = ltb-false _ _ (sym c.has_line.ensures ∙ not-true _ c.if-not-has_line.true-raw) in
-    c.refused.ensures ∙ ap refused c.with_len.ensures ∙ sym (answer_alone _ _ c.requires left)
+    let left = ltb-false _ _ (sym c.has_line.ensures ∙ c.if-not-has_line.true) in
+    c.misplaced.ensures ∙ ap refused c.with_len.ensures ∙ sym (answer_alone _ _ c.requires left)
 
 pub line_behind-requires : goal.line_behind-requires
 line_behind-requires c =
-    its_place _ _ _ c.requires c.line_from-line.ensures _ c.with_len-place.ensures
+    its_place _ _ _ c.requires c.line_at-line.ensures _ c.with_len-facts.ensures
 
 pub returns : goal.returns
 returns c =
-    let here = ltb-true _ _ (sym c.has_line.ensures ∙ not-false _ c.if-not-has_line.false-raw) in
-    let next = behind_its _ _ _ c.requires c.line_from-line.ensures _ c.with_len-place.ensures _ c.line_behind.ensures in
-    c.found.ensures
-    ∙ ap₂ (found Answer) c.with_len-place.ensures next
-    ∙ sym (answer_facts _ _ c.requires here _ c.line_from-line.ensures)
+    let here = ltb-true _ _ (sym c.has_line.ensures ∙ c.if-not-has_line.false) in
+    let next = behind_its _ _ _ c.requires c.line_at-line.ensures _ c.with_len-facts.ensures _ c.line_behind.ensures in
+    ap₂ (found Answer) c.with_len-facts.ensures next
+    ∙ sym (answer_facts _ _ c.requires here _ c.line_at-line.ensures)

@@ -18,16 +18,16 @@ returns-then-starts_with c =
 pub returns-then-starts_with-2 : goal.returns-then-starts_with-2
 returns-then-starts_with-2 c =
     let word = sym c.starts_with-2.ensures ∙ c.if-starts_with-2.true in
-    report_claims _ _ c.requires _ c.part-bytes.ensures _ c.line_behind-next.ensures Inconsistent word (λ ls. refl) _ c.found.ensures
+    report_claims _ _ c.requires _ c.part-bytes.ensures _ c.line_behind-next.ensures Inconsistent word (λ ls. refl) _ c.claim.ensures
 
 pub returns-then-starts_with-3 : goal.returns-then-starts_with-3
 returns-then-starts_with-3 c =
     let word = sym c.starts_with-3.ensures ∙ c.if-starts_with-3.true in
-    report_claims _ _ c.requires _ c.part-bytes.ensures _ c.line_behind-next.ensures Unknown word (λ ls. refl) _ c.found-then-starts_with-3.ensures
+    report_claims _ _ c.requires _ c.part-bytes.ensures _ c.line_behind-next.ensures Unknown word (λ ls. refl) _ c.claim-then-starts_with-3.ensures
 
 pub returns : goal.returns
 returns c =
     let no_answer = sym c.starts_with.ensures ∙ c.if-starts_with.false in
     let no-inconsistent = sym c.starts_with-2.ensures ∙ c.if-starts_with-2.false in
     let no-unknown = sym c.starts_with-3.ensures ∙ c.if-starts_with-3.false in
-    report_stray _ _ c.requires _ c.part-bytes.ensures no_answer no-inconsistent no-unknown _ c.refused.ensures
+    report_stray _ _ c.requires _ c.part-bytes.ensures no_answer no-inconsistent no-unknown _ c.misplaced.ensures

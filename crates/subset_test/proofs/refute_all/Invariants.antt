@@ -1,14 +1,10 @@
 -- `refute_all` meets its contract. The invariant: the rules before this one have ruled out what they refute, and each pair of the cache is ruled out.
--- The measure is how many rules are left. Assumes nothing.
+-- Assumes nothing.
 use mathlib.Core.Path.{◌≡◌}
-use Prim.Native.Nat.{◌-◌, ◌≤◌}
 use lib.ListN.{length}
 use Rattle.subsets.specs.Seen.{Seen}
 use Rattle.subset_test.specs.Smaller.{Refutes}
 use Rattle.subset_test.proofs.refute_all.Given as goal
 
 abbrev pub invariant-loop-r : goal.invariant-loop-r
-invariant-loop-r l = (l.r ≤ l.total) × (length l.values ≡ 16) × Refutes l.ranks l.store l.count l.total l.r l.initial.table l.table × Seen l.seen l.table
-
-abbrev pub decreases-loop-r : goal.decreases-loop-r
-decreases-loop-r l = l.total - l.r
+invariant-loop-r l = (length l.values ≡ 16) × Refutes l.ranks l.store l.count l.total l.r l.initial.table l.table × Seen l.seen l.table

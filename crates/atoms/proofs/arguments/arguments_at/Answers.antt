@@ -10,11 +10,4 @@ past-requires c =
 
 pub returns-then-token-eq-CLOSE : goal.returns-then-token-eq-CLOSE
 returns-then-token-eq-CLOSE c =
-    arguments_none c.args.program.now c.args.output.now c.args.text.now c.args.names.now c.args.variables.now c.args.cursor c.requires _ c.token_at-token.ensures c.if-token-eq-CLOSE.true _ _ (rw c.past.ensures at c.gone.ensures)
-
-pub some_arguments-requires : goal.some_arguments-requires
-some_arguments-requires c =
-    record { ready = record { ready = c.requires; is_token = c.token_at-token.ensures }; some_one = c.if-token-eq-CLOSE.false }
-
-pub returns : goal.returns
-returns c = c.some_arguments.ensures
+    rw c.past.ensures (arguments_none c.args.program.now c.args.output.now c.args.text.now c.args.names.now c.args.variables.now c.args.cursor c.requires _ c.token_at-token.ensures c.if-token-eq-CLOSE.true _)

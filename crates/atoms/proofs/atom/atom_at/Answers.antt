@@ -1,18 +1,21 @@
 -- `atom::atom_at` meets its contract. Assumes nothing.
 use native.Mathlib.Omega.{arith}
+use Rattle.std.proofs.lemmas.Result.{err_from_is_err_and}
 use Rattle.rows.proofs.Growth.{room_less}
 use Rattle.names.proofs.Numbered.{grown_coded_name, interned_below}
 use Rattle.syntax.proofs.Tokens.{within, forward, past_countable}
+use Rattle.syntax.proofs.Atoms.{atom_stops, signed_over, atom_wrong}
 use Rattle.terms.proofs.TermLaws.{name_filled}
-use Rattle.atoms.proofs.AtomLaws.{ready_behind, ready_named, atom_stops, atom_goes, signed_over, signed_goes, atom_wrong}
+use Rattle.atoms.proofs.AtomLaws.{ready_behind, ready_named, atom_goes, signed_goes}
 use Rattle.atoms.proofs.atom.atom_at.Goals as goal
 
 pub past-requires : goal.past-requires
 past-requires c = past_countable c.args.cursor.ground c.args.text.now c.args.cursor.at.start _ c.requires.is_token (omega arith)
 
-pub returns-then-code-ne0 : goal.returns-then-code-ne0
-returns-then-code-ne0 c =
-    atom_stops c.args.program.now c.args.output.now c.args.text.now c.args.names.now c.args.variables.now c.args.cursor c.requires.ready _ c.requires.is_token _ c.if-token-eq-NAME.true _ c.word_code-code.ensures _ _ c.if-code-ne0.true c.stopped.ensures
+pub returns-in_err-fits_word : goal.returns-in_err-fits_word
+returns-in_err-fits_word c =
+    let p = err_from_is_err_and c.from_residual.result c.from_residual.ensures.1 in
+    rw (p.1, p.2, c.in_err-fits_word.ensures.0) (atom_stops c.args.cursor.ground c.args.cursor.over c.args.text.now c.args.cursor.at.start _ c.requires.is_token _ c.if-token-eq-NAME.true c.in_err-fits_word.ensures.1)
 
 pub name_number-number-requires : goal.name_number-number-requires
 name_number-number-requires c =
@@ -24,15 +27,15 @@ named_atom-requires c =
 
 pub returns-then-token-eq-NAME : goal.returns-then-token-eq-NAME
 returns-then-token-eq-NAME c =
-    atom_goes c.args.program.now c.args.output.now c.args.text.now c.args.names.now c.args.variables.now c.args.cursor c.requires.ready _ c.requires.is_token _ c.if-token-eq-NAME.true _ c.word_code-code.ensures c.if-code-ne0.false _ _ c.name_number-number.ensures _ _ (rw (c.onward-behind.ensures, c.past.ensures) at c.named_atom.ensures)
+    atom_goes c.args.program.now c.args.output.now c.args.text.now c.args.names.now c.args.variables.now c.args.cursor c.requires.ready _ c.requires.is_token c.if-token-eq-NAME.true _ _ c.name_number-number.ensures c.in_ok-fits_word.ensures.0 _ _ _ c.in_ok-fits_word.ensures.1 (rw (c.onward-behind.ensures, c.past.ensures) at c.named_atom.ensures)
 
 pub returns-then-token-ne-MINUS : goal.returns-then-token-ne-MINUS
 returns-then-token-ne-MINUS c =
-    atom_wrong c.args.program.now c.args.output.now c.args.text.now c.args.names.now c.args.variables.now c.args.cursor c.requires.ready _ c.requires.is_token _ _ _ c.if-token-eq-NAME.false c.if-token-ne-MINUS.true c.stopped-then-token-ne-MINUS.ensures
+    atom_wrong c.args.cursor.ground c.args.cursor.over c.args.text.now c.args.cursor.at.start _ c.requires.is_token _ c.if-token-eq-NAME.false c.if-token-ne-MINUS.true
 
 pub returns-then-cursor : goal.returns-then-cursor
 returns-then-cursor c =
-    signed_over c.args.program.now c.args.output.now c.args.text.now c.args.names.now c.args.variables.now c.args.cursor c.requires.ready _ c.requires.is_token _ _ _ c.if-token-ne-MINUS.false c.if-cursor.true c.stopped-then-cursor.ensures
+    signed_over c.args.cursor.ground c.args.cursor.over c.args.text.now c.args.cursor.at.start _ c.requires.is_token _ c.if-token-ne-MINUS.false c.if-cursor.true
 
 pub minus_atom-requires : goal.minus_atom-requires
 minus_atom-requires c =
@@ -40,4 +43,4 @@ minus_atom-requires c =
 
 pub returns : goal.returns
 returns c =
-    signed_goes c.args.program.now c.args.output.now c.args.text.now c.args.names.now c.args.variables.now c.args.cursor c.requires.ready _ c.requires.is_token _ c.if-token-ne-MINUS.false c.if-cursor.false _ _ (rw (c.onward-behind.ensures, c.past.ensures) at c.minus_atom.ensures)
+    signed_goes c.args.program.now c.args.output.now c.args.text.now c.args.names.now c.args.variables.now c.args.cursor c.requires.ready _ c.requires.is_token c.if-token-ne-MINUS.false c.if-cursor.false _ _ _ (rw (c.onward-behind.ensures, c.past.ensures) at c.minus_atom.ensures)

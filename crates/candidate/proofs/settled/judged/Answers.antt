@@ -1,8 +1,5 @@
 -- `judged` meets its contract: the judgement over the store, and the answer that it gives. Assumes nothing.
-use mathlib.Core.Path.{◌≡◌}
-use lib.ListN.{length}
 use Rattle.candidate.proofs.Settling.{tables, room_to_count, gives}
-use borrow.Author.Rules.{rules}
 use Rattle.candidate.proofs.settled.judged.Goals as goal
 
 pub judge-judgement-requires : goal.judge-judgement-requires
@@ -14,8 +11,7 @@ pub verdict-requires : goal.verdict-requires
 verdict-requires c =
     let p = c.requires in
     let s = p.settling in
-    let wide : length c.judge-judgement.result.positions ≡ 16 = search rules in
-    room_to_count _ p.output p.names _ _ _ _ _ _ s.program_rules s.candidate s.stands _ _ s.room c.judge-judgement.result (c.judge-judgement.ensures _ p.comparing) wide
+    room_to_count _ p.output p.names _ _ _ _ _ _ s.program_rules s.candidate s.stands _ _ s.room c.judge-judgement.result (c.judge-judgement.ensures _ p.comparing)
 
 pub returns : goal.returns
 returns c =

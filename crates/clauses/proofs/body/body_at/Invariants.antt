@@ -4,8 +4,8 @@ use Prim.Native.Nat.{◌-◌}
 use Rattle.clauses.proofs.BodyLaws.{Going}
 use Rattle.clauses.proofs.body.body_at.Given as goal
 
-abbrev pub invariant-loop-cursor : goal.invariant-loop-cursor
-invariant-loop-cursor l = Going l.program l.output l.initial.names l.initial.variables l.initial.literals l.cursor l.first l.names l.variables l.literals l.at l.met l.count
+abbrev pub invariant-loop-read : goal.invariant-loop-read
+invariant-loop-read l = Going l.program l.output l.initial.names l.initial.variables l.initial.literals l.cursor l.first l.names l.variables l.literals l.at l.met l.count
 
-abbrev pub decreases-loop-cursor : goal.decreases-loop-cursor
-decreases-loop-cursor l = 17 - l.count
+abbrev pub decreases-loop-read : goal.decreases-loop-read
+decreases-loop-read l = 17 - l.count

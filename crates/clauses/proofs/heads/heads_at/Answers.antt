@@ -1,67 +1,26 @@
 -- `heads::heads_at` meets its contract. The invariant: the rows so far stand for the heads that have been read as far as here.
 -- The measure is how many more there may be. Assumes nothing.
-use mathlib.Core.Path.{refl}
-use mathlib.Core.Bool.{false}
 use native.Mathlib.Omega.{arith}
+use mathlib.Core.Bool.{false}
+use mathlib.Core.Path.{refl}
+use Rattle.std.proofs.lemmas.Result.{err_from_is_err_and}
 use Rattle.syntax.proofs.Tokens.{past_here, past_countable}
-use Rattle.atoms.proofs.AtomLaws.{ready_head}
-use Rattle.clauses.proofs.HeadLaws.{going_start, head_stops, head_room, head_end, head_fits, heads_end, heads_on}
+use Rattle.clauses.proofs.HeadLaws.{going_start, head_stops, heads_end, heads_on}
 use borrow.Author.Rules.{rules}
 use Rattle.clauses.proofs.heads.heads_at.Goals as goal
 
-pub loop-cursor-init : goal.loop-cursor-init
-loop-cursor-init c =
+pub loop-read-init : goal.loop-read-init
+loop-read-init c =
     going_start c.args.program.now c.args.output.now c.args.names.now c.args.variables.now c.args.literals.now c.args.cursor c.args.start c.requires
 
-pub atom_at-read-requires : goal.atom_at-read-requires
-atom_at-read-requires c =
-    ready_head c.args.program.now c.args.output.now c.args.program.now _ _ _ c.loop-cursor.invariant.ready.ready false c.loop-cursor.invariant.ready.in_program _ c.loop-cursor.invariant.is_token
-
-pub shape_of-names-then-progress-ne0 : goal.shape_of-names-then-progress-ne0
-shape_of-names-then-progress-ne0 c = search (rules, c.loop-cursor.invariant.long, c.loop-cursor.invariant.names_long, c.loop-cursor.invariant.literals_long)
-
-pub shape_of-variables-then-progress-ne0 : goal.shape_of-variables-then-progress-ne0
-shape_of-variables-then-progress-ne0 c = search (rules, c.loop-cursor.invariant.long, c.loop-cursor.invariant.names_long, c.loop-cursor.invariant.literals_long)
-
-pub shape_of-literals-then-progress-ne0 : goal.shape_of-literals-then-progress-ne0
-shape_of-literals-then-progress-ne0 c = search (rules, c.loop-cursor.invariant.long, c.loop-cursor.invariant.names_long, c.loop-cursor.invariant.literals_long)
-
-pub returns-then-progress-ne0 : goal.returns-then-progress-ne0
-returns-then-progress-ne0 c =
-    rw c.so_far.ensures (head_stops c.args.program.now c.args.output.now c.args.names.now c.args.variables.now c.args.literals.now c.args.cursor c.args.start.number c.requires.rule _ _ _ _ _ _ c.loop-cursor.invariant _ _ _ c.atom_at-read.ensures _ _ _ _ c.if-progress-ne0.true)
-
-pub overflow_mul-start : goal.overflow_mul-start
-overflow_mul-start c =
-    omega (arith, head_fits c.args.program.now c.args.output.now c.args.names.now c.args.variables.now c.args.literals.now c.args.cursor c.args.start.number c.requires.rule _ _ _ _ _ _ c.loop-cursor.invariant _ _ _ c.atom_at-read.ensures c.if-progress-ne0.false)
-
-pub overflow_add-start : goal.overflow_add-start
-overflow_add-start c =
-    omega (arith, head_fits c.args.program.now c.args.output.now c.args.names.now c.args.variables.now c.args.literals.now c.args.cursor c.args.start.number c.requires.rule _ _ _ _ _ _ c.loop-cursor.invariant _ _ _ c.atom_at-read.ensures c.if-progress-ne0.false)
-
-pub put_literal-requires : goal.put_literal-requires
-put_literal-requires c =
-    omega (arith, head_fits c.args.program.now c.args.output.now c.args.names.now c.args.variables.now c.args.literals.now c.args.cursor c.args.start.number c.requires.rule _ _ _ _ _ _ c.loop-cursor.invariant _ _ _ c.atom_at-read.ensures c.if-progress-ne0.false)
-
-pub overflow_add-count : goal.overflow_add-count
-overflow_add-count c =
-    omega (arith, (head_room c.args.program.now c.args.output.now c.args.names.now c.args.variables.now c.args.literals.now c.args.cursor c.args.start.number c.requires.rule _ _ _ _ _ _ c.loop-cursor.invariant _ _ _ c.atom_at-read.ensures c.if-progress-ne0.false).1)
-
-pub token_at-token-requires : goal.token_at-token-requires
-token_at-token-requires c =
-    head_end c.args.program.now c.args.output.now c.args.names.now c.args.variables.now c.args.literals.now c.args.cursor c.args.start.number c.requires.rule _ _ _ _ _ _ c.loop-cursor.invariant _ _ _ c.atom_at-read.ensures c.if-progress-ne0.false
-
-pub shape_of-names-then-token-ne-BAR : goal.shape_of-names-then-token-ne-BAR
-shape_of-names-then-token-ne-BAR c = search (rules, c.loop-cursor.invariant.names_long, c.slice_known-in-loop-cursor-1.given, c.names-1.given, c.atom_at-read)
-
-pub shape_of-variables-then-token-ne-BAR : goal.shape_of-variables-then-token-ne-BAR
-shape_of-variables-then-token-ne-BAR c = search (rules, c.loop-cursor.invariant.long, c.slice_known-in-loop-cursor-2-1.given, c.variables-1.given, c.atom_at-read)
-
-pub shape_of-literals-then-token-ne-BAR : goal.shape_of-literals-then-token-ne-BAR
-shape_of-literals-then-token-ne-BAR c = search (rules, c.loop-cursor.invariant.long, c.loop-cursor.invariant.names_long, c.loop-cursor.invariant.literals_long)
+pub returns-in_err-read : goal.returns-in_err-read
+returns-in_err-read c =
+    let p = err_from_is_err_and c.from_residual.result c.from_residual.ensures.1 in
+    rw (p.1, p.2) (head_stops c.args.program.now c.args.output.now c.args.names.now c.args.variables.now c.args.literals.now c.args.cursor c.args.start.number c.requires.rule _ _ _ _ _ _ c.loop-read.invariant _ c.in_err-read.ensures)
 
 pub returns-then-token-ne-BAR : goal.returns-then-token-ne-BAR
 returns-then-token-ne-BAR c =
-    rw c.so_far-then-token-ne-BAR.ensures (heads_end c.args.program.now c.args.output.now c.args.names.now c.args.variables.now c.args.literals.now c.args.cursor c.args.start.number c.requires.rule _ _ _ _ _ _ c.loop-cursor.invariant _ _ _ c.atom_at-read.ensures c.if-progress-ne0.false _ c.atom_row.ensures c.put_literal.ensures.0 _ c.put_literal.ensures.1 _ c.token_at-token.ensures c.if-token-ne-BAR.true)
+    heads_end c.args.program.now c.args.output.now c.args.names.now c.args.variables.now c.args.literals.now c.args.cursor c.args.start.number c.requires.rule _ _ _ _ _ _ c.loop-read.invariant _ _ _ c.in_ok-read.ensures _ c.atom_row-row.ensures c.put_literal.ensures.0 _ c.put_literal.ensures.1 _ c.token_at-token.ensures c.if-token-ne-BAR.true
 
 pub past-requires : goal.past-requires
 past-requires c =
@@ -71,9 +30,5 @@ pub token_at-first-requires : goal.token_at-first-requires
 token_at-first-requires c =
     rw (c.onward-here.ensures, c.past.ensures) (past_here false c.args.program.now _ _ c.token_at-token.ensures (λ q. refl))
 
-pub loop-cursor-smaller : goal.loop-cursor-smaller
-loop-cursor-smaller c =
-    omega (arith, (head_room c.args.program.now c.args.output.now c.args.names.now c.args.variables.now c.args.literals.now c.args.cursor c.args.start.number c.requires.rule _ _ _ _ _ _ c.loop-cursor.invariant _ _ _ c.atom_at-read.ensures c.if-progress-ne0.false).1)
-
-pub loop-cursor-preserved : goal.loop-cursor-preserved
-loop-cursor-preserved c = heads_on c.args.program.now c.args.output.now c.args.names.now c.args.variables.now c.args.literals.now c.args.cursor c.args.start.number c.requires.rule _ _ _ _ _ _ c.loop-cursor.invariant _ _ _ c.atom_at-read.ensures c.if-progress-ne0.false _ c.atom_row.ensures c.put_literal.ensures.0 _ c.put_literal.ensures.1 _ c.token_at-token.ensures c.if-token-ne-BAR.false (search (rules, c.loop-cursor.invariant.long, c.slice_known-in-loop-cursor-2-1.given, c.variables-1.given, c.atom_at-read)) _ (rw c.past.ensures at c.onward-here.ensures) _ c.token_at-first.ensures
+pub loop-read-preserved : goal.loop-read-preserved
+loop-read-preserved c = heads_on c.args.program.now c.args.output.now c.args.names.now c.args.variables.now c.args.literals.now c.args.cursor c.args.start.number c.requires.rule _ _ _ _ _ _ c.loop-read.invariant _ _ _ c.in_ok-read.ensures _ c.atom_row-row.ensures c.put_literal.ensures.0 _ c.put_literal.ensures.1 _ c.token_at-token.ensures c.if-token-ne-BAR.false (search (rules, c.loop-read.invariant.long)) _ (rw c.past.ensures at c.onward-here.ensures) _ c.token_at-first.ensures

@@ -4,8 +4,8 @@ use Prim.Native.Nat.{◌-◌}
 use Rattle.clauses.proofs.HeadLaws.{Going}
 use Rattle.clauses.proofs.heads.heads_at.Given as goal
 
-abbrev pub invariant-loop-cursor : goal.invariant-loop-cursor
-invariant-loop-cursor l = Going l.program l.output l.initial.names l.initial.variables l.initial.literals l.cursor l.start.number l.names l.variables l.literals l.here l.first l.count
+abbrev pub invariant-loop-read : goal.invariant-loop-read
+invariant-loop-read l = Going l.program l.output l.initial.names l.initial.variables l.initial.literals l.cursor l.start.number l.names l.variables l.literals l.here l.first l.count
 
-abbrev pub decreases-loop-cursor : goal.decreases-loop-cursor
-decreases-loop-cursor l = 5 - l.count
+abbrev pub decreases-loop-read : goal.decreases-loop-read
+decreases-loop-read l = 5 - l.count

@@ -4,8 +4,8 @@ use Prim.Native.Nat.{◌-◌}
 use Rattle.factline.proofs.LineLaws.{Going}
 use Rattle.factline.proofs.line.read_line.Given as goal
 
-abbrev pub invariant-loop-text : goal.invariant-loop-text
-invariant-loop-text l = Going l.program l.output l.text l.line.start l.initial.names l.initial.facts l.initial.starts l.initial.lengths l.at l.count l.names l.variables l.facts l.starts l.lengths
+abbrev pub invariant-loop-fact : goal.invariant-loop-fact
+invariant-loop-fact l = Going l.program l.output l.text l.line.start l.initial.names l.initial.facts l.initial.starts l.initial.lengths l.at l.count l.names l.variables l.facts l.starts l.lengths
 
-abbrev pub decreases-loop-text : goal.decreases-loop-text
-decreases-loop-text l = 1_025 - l.count
+abbrev pub decreases-loop-fact : goal.decreases-loop-fact
+decreases-loop-fact l = 1_025 - l.count

@@ -3,4 +3,4 @@ use Rattle.fields.proofs.Cutting.{is_cut}
 use Rattle.fields.proofs.part.cut.Goals as goal
 
 pub returns : goal.returns
-returns c = is_cut _ _ _ _ c.least-start.ensures _ c.least-length.ensures
+returns c = is_cut _ _ _ _ c.min-start.ensures _ c.min-length.ensures

@@ -1,12 +1,11 @@
 -- `run::run_end` meets its contract. The invariant: what is left of the run from here, added to here, is where the run ends.
--- The measure is what is left of the text. Assumes nothing.
-use mathlib.Core.Path.{refl, sym, ◌∙◌}
+-- Assumes nothing.
+use native.Mathlib.Omega.{arith}
+use mathlib.Core.Path.{sym, ◌∙◌}
 use borrow.Author.Tests.{not-true, not-false}
+use Rattle.lexis.specs.Run.{goes_on}
 use Rattle.texts.proofs.Prefix.{prefix_end, prefix_stop, prefix_on}
 use Rattle.lexis.proofs.run.run_end.Goals as goal
-
-pub loop-end-init : goal.loop-end-init
-loop-end-init c = refl
 
 pub returns-then-not-goes_on : goal.returns-then-not-goes_on
 returns-then-not-goes_on c =
@@ -19,5 +18,6 @@ loop-end-preserved c =
     c.loop-end.invariant
     ∙ prefix_on _ _ _ c.loop-end-test.true (sym c.goes_on.ensures ∙ not-false _ c.if-not-goes_on.false-raw)
 
+-- of a place past the text's end the run is empty, and behind the last byte there is nothing more
 pub returns : goal.returns
-returns c = sym (c.loop-end.invariant ∙ prefix_end _ _ _ c.loop-end-test.false)
+returns c = grind (arith, prefix_end (goes_on c.args.run) c.args.text.now c.args.at, prefix_end (goes_on c.args.run) _ _ c.loop-end-test.false, c.loop-end.invariant)

@@ -1,22 +1,15 @@
--- `names::bytewise::comes_before` meets its contract. The invariant: the one comes before the other where what is left of it does.
--- The measure is what is left of the first. Assumes nothing.
-use mathlib.Core.Path.{refl, sym, ◌∙◌}
-use Rattle.names.proofs.Before.{before_end, before_longer, before_differs, before_on}
+-- `bytewise::comes_before` meets its contract: `<` of two slices goes by their first bytes that differ, and else by their lengths, as
+-- `bytes_before` does. Assumes nothing.
+use native.Mathlib.Omega.{arith}
+use mathlib.Core.Path.{refl}
+use Rattle.std.proofs.lemmas.Bool.Decides.{nat_tests}
+use Rattle.std.proofs.lemmas.Cmp.{same_from_slice_cmp_tested}
+use Rattle.std.specs.Ordering.{nat_cmp, is_lt}
+use Rattle.meaning.specs.Values.{bytes_before}
 use Rattle.names.proofs.bytewise.comes_before.Goals as goal
 
-pub loop-i-init : goal.loop-i-init
-loop-i-init c = refl
-
-pub returns-then-b-i : goal.returns-then-b-i
-returns-then-b-i c = sym (c.loop-i.invariant ∙ before_longer _ _ _ c.loop-i-test.true c.if-b-i.true)
-
-pub returns-then-a-i : goal.returns-then-a-i
-returns-then-a-i c =
-    sym (c.loop-i.invariant ∙ before_differs _ _ _ c.loop-i-test.true c.if-b-i.false c.if-a-i.true)
-
-pub loop-i-preserved : goal.loop-i-preserved
-loop-i-preserved c =
-    c.loop-i.invariant ∙ before_on _ _ _ c.loop-i-test.true c.if-b-i.false c.if-a-i.false
-
 pub returns : goal.returns
-returns c = sym (c.loop-i.invariant ∙ before_end _ _ _ c.loop-i-test.false)
+unfolding bytes_before
+returns c =
+    let by = same_from_slice_cmp_tested nat_cmp is_lt bytes_before refl (λ _ _. refl) (λ _ _. refl) (λ x y xs ys o h. grind (arith, nat_tests)) in
+    by c.args.a.now c.args.b.now c.lt.result c.lt.ensures

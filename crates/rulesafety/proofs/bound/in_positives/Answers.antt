@@ -1,20 +1,18 @@
--- `bound::in_positives` meets its contract. The invariant: the variables of the literals before this one are added. The measure is how
--- many are left. Assumes nothing.
-use mathlib.Core.Path.{◌≡◌, refl}
+-- `bound::in_positives` meets its contract. The invariant: the variables of the literals before this one are added. Assumes nothing.
 use native.Mathlib.Omega.{arith}
+use mathlib.Core.Path.{◌≡◌, refl}
+use Prim.Native.Nat.{◌-◌}
 use Rattle.meaning.specs.Sets.{any}
 use Rattle.tables.specs.Rows.{from}
 use Rattle.rulesafety.proofs.Adding.{adds_none, body_on, body_whole}
 use Rattle.rulesafety.proofs.bound.in_positives.Goals as goal
 
-pub loop-i-init : goal.loop-i-init
+pub loop-literal-init : goal.loop-literal-init
 unfolding any from
-loop-i-init c = (omega arith, adds_none _ refl)
+loop-literal-init c = let none : c.args.first - c.args.first ≡ 0 = omega arith in rw none (adds_none _ refl)
 
-pub loop-i-preserved : goal.loop-i-preserved
-loop-i-preserved c =
-    let a = c.args in
-    (omega arith, body_on a.literals.now a.first c.loop-i.i _ _ _ c.loop-i.invariant.1 c.with_literal-more.ensures)
+pub loop-literal-preserved : goal.loop-literal-preserved
+loop-literal-preserved c = body_on c.args.literals.now c.args.first c.loop-literal.literal _ _ _ (omega arith) c.loop-literal.invariant c.with_literal-bound.ensures
 
 pub returns : goal.returns
-returns c = let e : c.loop-i.i ≡ c.args.count = omega arith in body_whole _ _ _ (rw (← e) c.loop-i.invariant.1)
+returns c = let all : c.loop-literal.literal - c.args.first ≡ c.args.count = omega arith in body_whole _ _ _ (rw all at c.loop-literal.invariant)

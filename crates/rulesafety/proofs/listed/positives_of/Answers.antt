@@ -1,21 +1,24 @@
--- `listed::positives_of` meets its contract. The invariant: the rows of the positive literals before this one are found. The measure is
--- how many are left. Assumes nothing.
+-- `listed::positives_of` meets its contract. The invariant: the rows of the positive literals before this one are found. Assumes nothing.
 use native.Mathlib.Omega.{arith}
-use Rattle.rulesafety.proofs.Listing.{found_start, found_on, found_end}
+use mathlib.Core.Path.{◌≡◌, ◌∙◌}
+use Prim.Native.Nat.{◌-◌}
+use Rattle.rulesafety.proofs.Listing.{found_start, found_more, found_same}
 use Rattle.rulesafety.proofs.listed.positives_of.Goals as goal
+use Rattle.rulesafety.proofs.listed.positives_of.Goals.{then-literals-literal-eq-POSITIVE, else-literals-literal-eq-POSITIVE}
 
-pub loop-i-init : goal.loop-i-init
-loop-i-init c = (omega arith, found_start c.args.literals.now c.args.first _ c.no_rows-found.ensures)
+pub loop-literal-init : goal.loop-literal-init
+loop-literal-init c = let none : c.args.first - c.args.first ≡ 0 = omega arith in rw none (found_start c.args.literals.now c.args.first _ c.new-found.ensures)
 
-pub with_positive-found-requires : goal.with_positive-found-requires
-with_positive-found-requires c = let few = c.loop-i.invariant.1.few in (omega arith, omega arith)
-
-pub loop-i-preserved : goal.loop-i-preserved
-loop-i-preserved c =
+pub loop-literal-preserved : goal.loop-literal-preserved
+loop-literal-preserved c =
     let a = c.args in
-    (omega arith, found_on a.literals.now a.first _ c.loop-i.i c.loop-i.invariant.1 _ (omega arith) c.with_positive-found.ensures)
+    elim c.if-literals-literal-eq-POSITIVE.branch [
+      | then-literals-literal-eq-POSITIVE w ↦ found_more a.literals.now a.first _ c.loop-literal.literal (omega arith) c.loop-literal.invariant (omega arith) w.if-literals-literal-eq-POSITIVE.true _ (w.found-is ∙ w.push.ensures)
+      | else-literals-literal-eq-POSITIVE w ↦ rw w.found-is (found_same a.literals.now a.first _ c.loop-literal.literal (omega arith) c.loop-literal.invariant w.if-literals-literal-eq-POSITIVE.false)
+    ]
 
 pub returns : goal.returns
 returns c =
-    let a = c.args in
-    found_end a.literals.now a.first _ c.loop-i.i c.loop-i.invariant.1 a.count c.requires.1 (omega arith) (omega arith)
+    let all : c.loop-literal.literal - c.args.first ≡ c.args.count = omega arith in
+    let few = c.loop-literal.invariant.few in
+    record { are = rw all at c.loop-literal.invariant.are; few = omega (arith, c.requires.1) }

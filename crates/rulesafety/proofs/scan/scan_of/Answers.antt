@@ -7,26 +7,23 @@ use Rattle.rulesafety.proofs.scan.scan_of.Goals as goal
 pub loop-scan-init : goal.loop-scan-init
 loop-scan-init c =
     let a = c.args in
-    going_start a.literals.now a.first a.count _ _ c.in_positives.ensures c.no_rows.ensures
+    going_start a.literals.now a.first a.count _ _ c.in_positives.ensures c.new.ensures
 
-pub returns-then-count-at : goal.returns-then-count-at
-returns-then-count-at c =
+pub returns-in_default : goal.returns-in_default
+returns-in_default c =
     let a = c.args in
-    going_stop a.literals.now a.first a.count c.requires.1 _ c.loop-scan.invariant _ c.first_gain-at.ensures c.if-count-at.true
+    going_stop a.literals.now a.first a.count c.requires.1 _ c.loop-scan.invariant c.in_default.ensures.is
 
-pub with_equation-scan-requires : goal.with_equation-scan-requires
-with_equation-scan-requires c =
+pub push-requires : goal.push-requires
+push-requires c =
     let a = c.args in
     let few = c.requires.1 in
-    (omega arith, gain_low a.literals.now a.first a.count few _ c.loop-scan.invariant _ c.first_gain-at.ensures c.if-count-at.false)
-
-pub loop-scan-smaller : goal.loop-scan-smaller
-loop-scan-smaller c = rw c.with_equation-scan.ensures (omega arith)
+    (omega arith, gain_low a.literals.now a.first a.count few _ c.loop-scan.invariant _ c.in-Some.ensures.is)
 
 pub loop-scan-preserved : goal.loop-scan-preserved
 loop-scan-preserved c =
     let a = c.args in
-    going_on a.literals.now a.first a.count c.requires.1 _ c.loop-scan.invariant _ c.first_gain-at.ensures c.if-count-at.false c.loop-scan-test.true _ c.with_equation-scan.ensures
+    going_on a.literals.now a.first a.count c.requires.1 _ c.loop-scan.invariant _ c.in-Some.ensures.is c.loop-scan-test.true _ c.push.ensures
 
 pub returns : goal.returns
 returns c =

@@ -1,7 +1,5 @@
 -- `seen::rule_out_once` meets its contract: a pair that stands in its slot is ruled out already, and any other is ruled out and put there. Assumes
 -- nothing.
-use native.Mathlib.Omega.{arith}
-use lib.ListN.{length-set}
 use Rattle.subsets.proofs.SeenPairs.{seen_again, seen_more}
 use Rattle.subsets.proofs.seen.rule_out_once.Goals as goal
 
@@ -9,9 +7,6 @@ pub returns-then-seen-at-2 : goal.returns-then-seen-at-2
 returns-then-seen-at-2 c =
     let slot = c.slot_of-at in
     (seen_again c.args.seen.now c.args.table.now c.requires.3 slot.result slot.ensures c.args.body c.args.heads c.if-seen-at.true c.if-seen-at-2.true, c.requires.3)
-
-pub bounds-seen-at-3 : goal.bounds-seen-at-3
-bounds-seen-at-3 c = simp length-set (omega arith)
 
 pub returns : goal.returns
 returns c =

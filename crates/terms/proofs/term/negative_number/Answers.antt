@@ -14,4 +14,4 @@ returns-then-token-eq-NUMBER c =
 
 pub returns : goal.returns
 returns c =
-    negative_wrong c.args.ground c.args.text.now c.args.at.start _ c.token_at-token.ensures c.if-token-eq-NUMBER.false _ _ c.stopped.ensures
+    negative_wrong c.args.ground c.args.text.now c.args.at.start _ c.token_at-token.ensures c.if-token-eq-NUMBER.false _

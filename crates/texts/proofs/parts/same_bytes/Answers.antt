@@ -1,5 +1,4 @@
--- `parts::same_bytes` meets its contract. The invariant: the bytes seen, from the last one back, are the same. The measure is how many
--- are left. Assumes nothing.
+-- `parts::same_bytes` meets its contract. The invariant: the bytes seen, from the last one back, are the same. Assumes nothing.
 use Prim.Native.Nat.{◌+◌, ◌-◌}
 use native.Mathlib.Omega.{arith}
 use mathlib.Core.Path.{◌≡◌, sym, ap, ◌∙◌}

@@ -1,5 +1,4 @@
--- `parts::same_bytes` meets its contract. The invariant: the bytes seen, from the last one back, are the same. The measure is how many
--- are left. Assumes nothing.
+-- `parts::same_bytes` meets its contract. The invariant: the bytes seen, from the last one back, are the same. Assumes nothing.
 use Prim.Native.Nat.{◌-◌}
 use mathlib.Core.Path.{◌≡◌}
 use mathlib.Core.Bool.{true}
@@ -9,6 +8,3 @@ use Rattle.texts.proofs.parts.same_bytes.Given as goal
 
 abbrev pub invariant-loop-seen : goal.invariant-loop-seen
 invariant-loop-seen l = same_bytes (drop (length l.a - l.seen) l.a) (drop (length l.a - l.seen) l.b) ≡ true
-
-abbrev pub decreases-loop-seen : goal.decreases-loop-seen
-decreases-loop-seen l = length l.a - l.seen

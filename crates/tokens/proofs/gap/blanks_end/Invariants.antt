@@ -1,16 +1,17 @@
 -- `gap::blanks_end` meets its contract. The invariant: what is left of the blanks from here, added to here, is where they end; and the line and
--- the column are those of here. The measure is what is left of the text. Assumes nothing.
-use Prim.Native.Nat.{◌+◌, ◌-◌}
+-- the column are those of here. Assumes nothing.
+use Prim.Native.Nat.{◌+◌}
 use mathlib.Core.Path.{◌≡◌}
 use mathlib.Core.Bool.{true}
-use lib.ListN.{length, drop}
+use lib.ListN.{drop}
 use Rattle.lexis.specs.Run.{is_blank}
 use Rattle.texts.specs.Prefix.{prefix_len}
 use Rattle.texts.specs.Place.{Stands}
 use Rattle.tokens.proofs.gap.blanks_end.Given as goal
 
-abbrev pub invariant-loop-end : goal.invariant-loop-end
-invariant-loop-end l = (l.initial.end.start + prefix_len (is_blank true) (drop l.initial.end.start l.text) ≡ l.end.start + prefix_len (is_blank true) (drop l.end.start l.text)) × Stands l.text l.end
-
-abbrev pub decreases-loop-end : goal.decreases-loop-end
-decreases-loop-end l = length l.text - l.end.start
+abbrev pub invariant-loop-here : goal.invariant-loop-here
+invariant-loop-here l = record {
+  here : l.end.start ≡ l.here;
+  left : l.fn.at.start + prefix_len (is_blank true) (drop l.fn.at.start l.text) ≡ l.end.start + prefix_len (is_blank true) (drop l.end.start l.text);
+  stands : Stands l.text l.end;
+}

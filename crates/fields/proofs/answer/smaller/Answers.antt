@@ -1,5 +1,0 @@
--- `smaller` meets its contract: the fields that its kind names, in an answer of zeros. Assumes nothing.
-use Rattle.fields.proofs.answer.smaller.Goals as goal
-
-pub returns : goal.returns
-returns c = rw c.claimed-answer.ensures

@@ -1,5 +1,0 @@
--- `blank` meets its contract: zero in every field but the kind, and the set that has no atom. Assumes nothing.
-use Rattle.judge.proofs.blank.Goals as goal
-
-pub returns : goal.returns
-returns c = rw c.empty-set.ensures
