@@ -31,10 +31,8 @@ fn digit(err: &mut impl Write, byte: u8, left: usize) -> io::Result<()> {
 }
 
 fn in_threes(err: &mut impl Write, digits: &[u8; MOST_DIGITS], count: usize) -> io::Result<()> {
-    for (at, byte) in digits.iter().enumerate() {
-        if at < count {
-            digit(err, *byte, count - at)?;
-        }
+    for (at, byte) in digits.iter().enumerate().take(count) {
+        digit(err, *byte, count - at)?;
     }
     Ok(())
 }

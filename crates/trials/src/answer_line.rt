@@ -15,7 +15,7 @@ fn item(out: &mut impl Write, n: u64) -> io::Result<()> {
 }
 
 // A verdict, and the place that stands where a refusal has its part: empty, at the program's start.
-fn verdict(out: &mut impl Write, name: &[u8]) -> io::Result<()> {
+fn title(out: &mut impl Write, name: &[u8]) -> io::Result<()> {
     say(out, name)?;
     place(out, b"program", TEXT_START)
 }
@@ -44,7 +44,7 @@ fn members(out: &mut impl Write, kept: Derived) -> io::Result<()> {
 }
 
 // The refusal, the text's name, and the place in it.
-fn refusal_of(out: &mut impl Write, refusal: Refusal, part: Part) -> io::Result<()> {
+fn handed_back(out: &mut impl Write, refusal: Refusal, part: Part) -> io::Result<()> {
     refused(out, refusal)?;
     let at = part.place;
     let text = part.text;
@@ -55,7 +55,7 @@ fn refusal_of(out: &mut impl Write, refusal: Refusal, part: Part) -> io::Result<
 }
 
 fn accepted(out: &mut impl Write, atoms: usize, rounds: usize, places: &[u16]) -> io::Result<()> {
-    verdict(out, b"ACCEPTED")?;
+    title(out, b"ACCEPTED")?;
     say(out, b" atoms ")?;
     number(out, atoms as u64)?;
     say(out, b" rounds ")?;
@@ -70,7 +70,7 @@ fn unsatisfied(
     positions: &[u64],
     count: usize,
 ) -> io::Result<()> {
-    verdict(out, b"UNSATISFIED")?;
+    title(out, b"UNSATISFIED")?;
     say(out, b" rule ")?;
     number(out, rule as u64)?;
     say(out, b" body")?;
@@ -81,7 +81,7 @@ fn unsatisfied(
 }
 
 fn smaller(out: &mut impl Write, kept: Derived) -> io::Result<()> {
-    verdict(out, b"SMALLER")?;
+    title(out, b"SMALLER")?;
     say(out, b" atoms")?;
     members(out, kept)
 }
@@ -89,7 +89,7 @@ fn smaller(out: &mut impl Write, kept: Derived) -> io::Result<()> {
 // All but the line's end: how many places the answer writes.
 fn values(out: &mut impl Write, answer: Answer, places: &[u16]) -> io::Result<usize> {
     match answer {
-        Answer::Refused { refusal, part } => refusal_of(out, refusal, part)?,
+        Answer::Refused { refusal, part } => handed_back(out, refusal, part)?,
         Answer::Accepted { atoms, rounds } => {
             accepted(out, atoms, rounds, places)?;
             return Ok(rounds_written(atoms, rounds));
@@ -100,8 +100,8 @@ fn values(out: &mut impl Write, answer: Answer, places: &[u16]) -> io::Result<us
             positions,
         } => unsatisfied(out, rule, &positions, count)?,
         Answer::Smaller { kept } => smaller(out, kept)?,
-        Answer::ClaimedNone => verdict(out, b"CLAIMED-NONE")?,
-        Answer::ClaimedUnknown => verdict(out, b"CLAIMED-UNKNOWN")?,
+        Answer::ClaimedNone => title(out, b"CLAIMED-NONE")?,
+        Answer::ClaimedUnknown => title(out, b"CLAIMED-UNKNOWN")?,
     }
     Ok(0)
 }
