@@ -30,7 +30,7 @@ use Rattle.fields.proofs.Kept.{all_listed}
 use Rattle.fields.proofs.Saying.{accepted_says, unsatisfied_says, smaller_says}
 use Rattle.verdict.specs.Told.{positions_of, Tells, leaves_range, is_broken, is_accepted, is_minimal, is_smaller}
 use Rattle.verdict.proofs.Counting.{from_one_taken}
-use Rattle.fields.proofs.Answering.{refuses, hands_on}
+use Rattle.fields.proofs.Answering.{refuses_fault, hands_on}
 
 -- ---- lists
 
@@ -55,7 +55,7 @@ module _ (text : Bytes) (P : List (Rule Value)) (I : List (Fact Value)) (old new
   told (OutOfRange rule) h lent shown a (leaves_range _) =
       let stage = settled_is (rule_part text) P I old (meant.out_of_range (suc rule)) h in
       let e : suc rule - 1 ≡ rule = omega arith in
-      rw lent (refuses _ old Program (record { refusal = refusals.OutOfRange; place = sentence false text rule }) (rw e at stage) a refl)
+      rw lent (refuses_fault _ old Program (record { refusal = refusals.OutOfRange; place = sentence false text rule }) (rw e at stage) a refl)
   told (Unsatisfied rule long positions) h lent shown a (is_broken _ _ _ ps f) =
       let stage = settled_is (rule_part text) P I old _ h in
       let one : rule + 1 ≡ suc rule = add-one rule in

@@ -25,7 +25,7 @@ use Rattle.promise.specs.Answered.{rule_part, fact_part}
 use Rattle.promise.specs.Judged.{Settled}
 use Rattle.fields.specs.declared.answer.Text.TheVariants.{Output}
 use Rattle.fields.specs.declared.answer.Answer.{Answer}
-use Rattle.fields.specs.Values.{refused}
+use Rattle.fields.specs.Values.{of_fault}
 use Rattle.fields.specs.Checked.{Answers}
 use Rattle.candidate.specs.declared.settled.Counts.{Counts}
 use Rattle.candidate.specs.declared.settled.Task.{Task}
@@ -34,7 +34,7 @@ use Rattle.candidate.specs.Facts.{refusal_of, fault_at, Behind, FaultOf, WithFac
 use Rattle.candidate.proofs.Clashing.{counted, first_clashes, none_clashes}
 use Rattle.candidate.proofs.Settling.{few_rows}
 use Rattle.candidate.proofs.Heads.{same_disjunctive}
-use Rattle.fields.proofs.Answering.{refuses, answers_as}
+use Rattle.fields.proofs.Answering.{refuses_fault, answers_as}
 
 -- ---- a fault, and the fact that has it
 
@@ -77,23 +77,23 @@ module _ (program output : Bytes) (names store : List ℕ) (n : Counts) (fault :
       Here = Answers (Behind program output line places P I) places
 
       -- 6 or 7
-      pub by_clash : (f : Refused) → fault ≡ Some f → (a : Answer) → a ≡ refused Output f → Here a places
+      pub by_clash : (f : Refused) → fault ≡ Some f → (a : Answer) → a ≡ of_fault Output f → Here a places
       by_clash f z a e =
           let there = some_there _ clash f (sym of.is ∙ z) in
           let found : First named (facts_in store) n.facts there.0 = rw there.1 at (of.first_clash named) in
           let stage = first_clashes named s.held.rules_held.name_table.distinct (facts_in store) n.facts I s.held.facts_stand there.0 found (fact_part output line) in
-          refuses _ places Output f (rw (← there.2) (stops _ _ stage)) a e
+          refuses_fault _ places Output f (rw (← there.2) (stops _ _ stage)) a e
 
       -- 9
-      pub by_room : ((f : Refused) → fault ≡ Some f → ⊥) → length places < n.facts → (a : Answer) → a ≡ refused Output (record { refusal = ShortBuffer; place = text_start }) → Here a places
-      by_room z short a e = refuses _ places Output (record { refusal = ShortBuffer; place = text_start }) (goes tt _ (without (clear _ of z)) (stops _ _ (given (omega (arith, short, long))))) a e
+      pub by_room : ((f : Refused) → fault ≡ Some f → ⊥) → length places < n.facts → (a : Answer) → a ≡ of_fault Output (record { refusal = ShortBuffer; place = text_start }) → Here a places
+      by_room z short a e = refuses_fault _ places Output (record { refusal = ShortBuffer; place = text_start }) (goes tt _ (without (clear _ of z)) (stops _ _ (given (omega (arith, short, long))))) a e
 
       module _ (z : (f : Refused) → fault ≡ Some f → ⊥) (room : n.facts ≤ length places) (b : Bool) (heads : b ≡ several_heads store n.rules) where
         -- 12
-        pub by_subsets : b ≡ true → most_tested < n.facts → (a : Answer) → a ≡ refused Output (record { refusal = Untested; place = text_start }) → Here a places
+        pub by_subsets : b ≡ true → most_tested < n.facts → (a : Answer) → a ≡ of_fault Output (record { refusal = Untested; place = text_start }) → Here a places
         by_subsets t many a e =
             let several : disjunctive P ≡ true = sym (same_disjunctive named _ P s.held.rules_held.rules_stand) ∙ sym heads ∙ t in
-            refuses _ places Output (record { refusal = Untested; place = text_start }) (goes tt _ (without (clear _ of z)) (goes tt _ (passed (λ short. absurd (omega (arith, short, long, room)))) (stops _ _ (given (record { several = several; many = omega (arith, many, long) }))))) a e
+            refuses_fault _ places Output (record { refusal = Untested; place = text_start }) (goes tt _ (without (clear _ of z)) (goes tt _ (passed (λ short. absurd (omega (arith, short, long, room)))) (stops _ _ (given (record { several = several; many = omega (arith, many, long) }))))) a e
 
         -- the last stages
         pub by_stages : (b ≡ true → n.facts ≤ most_tested) → (a : Answer) (left : List ℕ) → Answers (Settled (rule_part program) P I places) places a left → Here a left

@@ -8,7 +8,7 @@ ghost use Rattle.filling.specs.Filling.{FactsFillable};
 ghost use Rattle.candidate.specs.Facts.{refusal_of, fault_at, Reachable, FactsPut, WithFacts, AnswersFacts};
 
 use clashes::{Clashing, Reason};
-use fields::answer::{Answer, Text, refused};
+use fields::answer::{Answer, Text, of_fault};
 use fields::clash::fact_part;
 use filling::fill_facts;
 use judge::several::several_heads;
@@ -85,14 +85,14 @@ pub fn with_facts<'a>(
     ensures { AnswersFacts program.now output.now names.now store.now counts fault places.old result places.new }
 {
     if let Some(fault) = fault {
-        return refused(Text::Output, fault);
+        return of_fault(Text::Output, fault);
     }
     if places.len() < counts.facts {
-        return refused(Text::Output, SHORT);
+        return of_fault(Text::Output, SHORT);
     }
     let several = several_heads(store, counts.rules);
     if several && MOST_TESTED_FACTS < counts.facts {
-        return refused(Text::Output, UNTESTED);
+        return of_fault(Text::Output, UNTESTED);
     }
     let task = Task { counts, several };
     settled(program, output, names, store, task, places)

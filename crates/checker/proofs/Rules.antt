@@ -26,7 +26,7 @@ use Rattle.filling.specs.Filling.{RulesFilled}
 use Rattle.promise.specs.Answered.{Check}
 use Rattle.fields.specs.declared.answer.Text.TheVariants.{Program as InProgram}
 use Rattle.fields.specs.declared.answer.Answer.{Answer}
-use Rattle.fields.specs.Values.{refused}
+use Rattle.fields.specs.Values.{of_fault}
 use Rattle.fields.specs.Checked.{Answers}
 use Rattle.candidate.specs.Standing.{RulesHeld}
 use Rattle.checker.specs.Standing.{names_of_both, WithRules, AnswersRules}
@@ -76,6 +76,6 @@ module _ (program output : Bytes) where
       rules_answer code places a left k = by_rules program output code places filled.reads.tree filled.reads.reads a left (k filled.reads.tree held)
 
     -- it is refused
-    pub refusal_answer : (fault : Refused) → RulesFilled program within names store (Err fault) names' store' → (code : ℕ) (places : List ℕ) (a : Answer) → a ≡ refused InProgram fault → Answers (Check program output code places) places a places
+    pub refusal_answer : (fault : Refused) → RulesFilled program within names store (Err fault) names' store' → (code : ℕ) (places : List ℕ) (a : Answer) → a ≡ of_fault InProgram fault → Answers (Check program output code places) places a places
     refusal_answer fault filled code places a is =
         by_program program output code places fault (rw (filled.reads.place, ← (refused_placed program _ filled.reads.part filled.reads.reads).within) filled.reads.reads) a is

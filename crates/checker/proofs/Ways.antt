@@ -30,20 +30,20 @@ use Rattle.promise.specs.Answered.{Reported, code_of, Check}
 use Rattle.fields.specs.declared.answer.Text.TheVariants.{Program as InProgram, Output as InOutput}
 use Rattle.fields.specs.declared.answer.Answer.TheVariants.{ClaimedNone, ClaimedUnknown}
 use Rattle.fields.specs.declared.answer.Answer.{Answer}
-use Rattle.fields.specs.Values.{refused}
+use Rattle.fields.specs.Values.{of_fault}
 use Rattle.fields.specs.Parts.{text_of}
 use Rattle.fields.specs.Checked.{Answers}
 use Rattle.candidate.specs.Facts.{Behind}
 use Rattle.checker.specs.Standing.{BehindProgram}
 use Rattle.fields.proofs.Saying.{none_says, unknown_says}
-use Rattle.fields.proofs.Answering.{refuses, hands_on, answers_as}
+use Rattle.fields.proofs.Answering.{refuses_fault, hands_on, answers_as}
 
 module _ (the_program the_output : Bytes) (code : ℕ) (places : List ℕ) where
   -- ---- the program
 
   -- it is refused
-  pub by_program : (fault : Refused) → ProgramStage the_program (stop (number_of fault.refusal) (in_text (text_of InProgram) fault.place)) → (a : Answer) → a ≡ refused InProgram fault → Answers (Check the_program the_output code places) places a places
-  by_program fault h a e = refuses _ places InProgram fault (stops _ _ h) a e
+  pub by_program : (fault : Refused) → ProgramStage the_program (stop (number_of fault.refusal) (in_text (text_of InProgram) fault.place)) → (a : Answer) → a ≡ of_fault InProgram fault → Answers (Check the_program the_output code places) places a places
+  by_program fault h a e = refuses_fault _ places InProgram fault (stops _ _ h) a e
 
   -- it is read
   pub by_rules : (c : Program false) → ProgramStage the_program (on c) → (a : Answer) (left : List ℕ) → Answers (BehindProgram the_program the_output code places c) places a left → Answers (Check the_program the_output code places) places a left
@@ -56,8 +56,8 @@ module _ (the_program the_output : Bytes) (code : ℕ) (places : List ℕ) where
     Here = Answers (BehindProgram the_program the_output code places c) places
 
     -- it is refused
-    pub by_output : (fault : Refused) → ReadsOutput the_output (Err fault) → (a : Answer) → a ≡ refused InOutput fault → Here a places
-    by_output fault read a e = refuses _ places InOutput fault (stops _ _ (output_refused the_output fault read)) a e
+    pub by_output : (fault : Refused) → ReadsOutput the_output (Err fault) → (a : Answer) → a ≡ of_fault InOutput fault → Here a places
+    by_output fault read a e = refuses_fault _ places InOutput fault (stops _ _ (output_refused the_output fault read)) a e
 
     module _ (s : OutputRead) (read : ReadsOutput the_output (Ok s)) where
       abbrev Reporting : Word → Type 0
@@ -69,10 +69,10 @@ module _ (the_program the_output : Bytes) (code : ℕ) (places : List ℕ) where
       report_of words.Unknown h = (claim_unknown, h, refl)
 
       -- code and report disagree
-      pub by_code : (b : Bool) → b ≡ agrees s.word code → not b ≡ true → (a : Answer) → a ≡ refused InOutput (record { refusal = Disagreement; place = text_start }) → Here a places
+      pub by_code : (b : Bool) → b ≡ agrees s.word code → not b ≡ true → (a : Answer) → a ≡ of_fault InOutput (record { refusal = Disagreement; place = text_start }) → Here a places
       by_code b agreeing n a e =
           let x = report_of s.word (output_says the_output s read) in
-          refuses _ places InOutput _ (goes x.0 _ x.1 (stops _ _ (given (λ f. true≢false (inv (eq-eqb code (code_of x.0) f) ∙ inv x.2 ∙ inv agreeing ∙ not_true b n))))) a e
+          refuses_fault _ places InOutput (record { refusal = Disagreement; place = text_start }) (goes x.0 _ x.1 (stops _ _ (given (λ f. true≢false (inv (eq-eqb code (code_of x.0) f) ∙ inv x.2 ∙ inv agreeing ∙ not_true b n))))) a e
 
       -- they agree
       agreed : (x : Report) → eqb code (code_of x) ≡ true → OutputStage the_output (on x) → (o : Outcome paper.Result) → Reported the_program the_output places c x o → BehindProgram the_program the_output code places c o

@@ -6,7 +6,7 @@ ghost use Rattle.promise.specs.Answered.{Check};
 ghost use Rattle.fields.specs.Checked.{Answers};
 ghost use Rattle.checker.specs.Standing.{names_of_both};
 
-use fields::answer::{Answer, Text, refused};
+use fields::answer::{Answer, Text, of_fault};
 use filling::{empty_store, fill_rules};
 use names::SMALL_TEXT;
 use reported::reported;
@@ -32,7 +32,7 @@ fn with_names<'a>(
     let within = bytes_in(output, span_from(0, MOST_TEXT));
     match fill_rules(program, within, names, &mut store) {
         Ok(total) => reported(program, output, code, names, &mut store, total, places),
-        Err(fault) => refused(Text::Program, fault),
+        Err(fault) => of_fault(Text::Program, fault),
     }
 }
 

@@ -3,7 +3,7 @@ ghost use Rattle.checker.specs.Standing.{WithRules, AnswersRules};
 
 use candidate::settled::Counts;
 use candidate::{put_facts, with_facts};
-use fields::answer::{Answer, Text, refused};
+use fields::answer::{Answer, Text, of_fault};
 use output::read_output;
 use report::word::{Word, agrees};
 use tables::FACT;
@@ -51,10 +51,10 @@ pub fn reported<'a>(
         &mut lengths,
     ) {
         Ok(read) => read,
-        Err(fault) => return refused(Text::Output, fault),
+        Err(fault) => return of_fault(Text::Output, fault),
     };
     if !agrees(read.word, code) {
-        return refused(Text::Output, DISAGREE);
+        return of_fault(Text::Output, DISAGREE);
     }
     let line = read.line;
     let count = read.count;

@@ -5,6 +5,7 @@ use mathlib.Core.Bool.{Bool, true, false}
 use mathlib.Core.Logic.{◌↔◌, ◌⊎◌}
 use mathlib.Core.List.{List, ◌++◌, map}
 use Prim.Native.Nat.{ℕ, ◌≤◌}
+use native.Mathlib.Omega.{arith}
 use lib.ListN.{length, get_or, take, drop}
 use Rattle.texts.specs.declared.place.Place.{Place}
 use Rattle.meaning.specs.Rules.{Bytes, disjunctive}
@@ -17,7 +18,7 @@ use Rattle.grammar.specs.Abstraction.{rules_for, facts_for}
 use Rattle.stages.specs.Parts.{Part}
 use Rattle.output.specs.Output.{claim_none, claim_unknown}
 use Rattle.derived_set.specs.Members.{holds}
-use Rattle.promise.specs.Answer.{fields}
+use Rattle.promise.specs.Answer.{Fields, fields}
 use Rattle.promise.specs.Answer as paper
 use Rattle.promise.specs.Answered.{Check}
 use Rattle.promise.specs.Refusals.{Read, Case}
@@ -28,15 +29,13 @@ use Rattle.promise.proofs.Claims as claims
 use Rattle.promise.proofs.Rounds as rounds
 use Rattle.promise.proofs.Located as located
 use Rattle.promise.proofs.Demands as demands
-use Rattle.texts.specs.declared.refusal.Refusal.{Refusal}
-use Rattle.texts.specs.Refusal.{number_of}
 use Rattle.derived_set.specs.declared.Derived.{Derived}
 use Rattle.fields.specs.declared.answer.Part.{Part as PartValue}
 use Rattle.fields.specs.declared.answer.Answer.TheVariants.{Refused, Unsatisfied, Smaller, ClaimedNone, ClaimedUnknown}
 use Rattle.fields.specs.declared.answer.Answer.TheVariants as answers
 use Rattle.fields.specs.declared.answer.Answer.{Answer}
 use Rattle.fields.specs.Parts.{part_of}
-use Rattle.fields.specs.Answers.{WholeSet, said}
+use Rattle.fields.specs.Answers.{WholeSet, fields_of, said}
 use Rattle.fields.specs.Checked.{Answers}
 use Rattle.fields.proofs.Kept.{kept_decided, kept_sized}
 use Rattle.fields.proofs.Said.{FormOf, form_of}
@@ -52,17 +51,17 @@ module _ (the_program the_output : Bytes) (code : ℕ) (places : List ℕ) (a : 
 
   -- it refuses with the number n and the part p
   abbrev pub Refuses : ℕ → Part → Type 0
-  Refuses n p = (r : Refusal) × (v : PartValue) × (a ≡ Refused r v) × (number_of r ≡ n) × (part_of v ≡ p)
+  Refuses n p = (v : PartValue) × (a ≡ Refused n v) × (part_of v ≡ p)
 
   -- .. exactly in that case
   pub refused_exactly : (n : ℕ) (p : Part) → Refuses n p ↔ Case the_program the_output code places n p
   refused_exactly n p =
       let exactly = numbers.refused_exactly the_program the_output code places h.answer left h.gives n p in
-      (λ x. exactly.0 (says _ x.2 ∙ cc (x.3, x.4)), λ k. form (paper.refused n p) (exactly.1 k))
+      (λ x. exactly.0 (says _ x.1 ∙ ap (paper.refused n) x.2), λ k. form (paper.refused n p) (exactly.1 k))
 
   -- .. and its number is one of 1 to 10, or 12, which only a program with several heads in some rule gets
-  pub refused_numbers : (r : Refusal) (v : PartValue) → a ≡ Refused r v → ((1 ≤ number_of r) × (number_of r ≤ 10)) ⊎ ((number_of r ≡ 12) × numbers.SeveralHeads the_program)
-  refused_numbers r v e = numbers.numbers the_program the_output code places _ _ ((refused_exactly _ _).0 (r, v, e, refl, refl))
+  pub refused_numbers : (n : ℕ) (v : PartValue) → a ≡ Refused n v → ((1 ≤ n) × (n ≤ 10)) ⊎ ((n ≡ 12) × numbers.SeveralHeads the_program)
+  refused_numbers n v e = numbers.numbers the_program the_output code places _ _ ((refused_exactly _ _).0 (v, e, refl))
 
   -- it hands on that there is no answer set, or that none was found, exactly where the output reports it, with its code
   pub claimed_none_exactly : (a ≡ ClaimedNone) ↔ ((c : Program false) × Read the_program the_output code c claim_none)
@@ -90,14 +89,26 @@ module _ (the_program the_output : Bytes) (code : ℕ) (places : List ℕ) (a : 
   -- ---- where its part stands
 
   -- with the line and the column of its start, in the text that it names
-  pub part_located : (r : Refusal) (v : PartValue) → a ≡ Refused r v → Located the_program the_output (part_of v)
-  part_located r v e = subst (λ (x : paper.Answer). Located the_program the_output (fields x).part) (says (Refused r v) e) (located.part_located the_program the_output places code h.answer left h.gives)
+  pub part_located : (n : ℕ) (v : PartValue) → a ≡ Refused n v → Located the_program the_output (part_of v)
+  part_located n v e = subst (λ (x : paper.Answer). Located the_program the_output (fields x).part) (says (Refused n v) e) (located.part_located the_program the_output places code h.answer left h.gives)
+
+  -- .. and so is the part of an answer of any kind
+  pub field_located : Located the_program the_output (fields_of a).part
+  field_located =
+      let f : fields_of a ≡ fields h.answer = h.says.zero in
+      subst (Located the_program the_output) (sym (ap (λ (x : Fields). x.part) f)) (located.part_located the_program the_output places code h.answer left h.gives)
 
   -- ---- ROUNDS
 
   -- it never passes the number of atoms
   pub rounds_at_most : (n k : ℕ) → a ≡ answers.Accepted n k → k ≤ n
   rounds_at_most n k e = rw (says (answers.Accepted n k) e) at (rounds.rounds_at_most the_program the_output code places h.answer left h.gives)
+
+  -- .. with any kind: where it names neither, both are zero
+  pub field_rounds_at_most : (fields_of a).rounds ≤ (fields_of a).atoms
+  field_rounds_at_most =
+      let f : fields_of a ≡ fields h.answer = h.says.zero in
+      omega (arith, ap (λ (x : Fields). x.rounds) f, ap (λ (x : Fields). x.atoms) f, rounds.rounds_at_most the_program the_output code places h.answer left h.gives)
 
   -- ---- the third demand
 

@@ -3,8 +3,6 @@ use mathlib.Core.Path.{◌≡◌, refl, subst}
 use mathlib.Core.List.{List}
 use Prim.Native.Nat.{ℕ}
 use lib.ListN.{take}
-use Rattle.texts.specs.declared.refusal.Refusal.{Refusal}
-use Rattle.texts.specs.Refusal.{number_of}
 use Rattle.derived_set.specs.declared.Derived.{Derived}
 use Rattle.promise.specs.Answer as paper
 use Rattle.fields.specs.declared.answer.Part.{Part}
@@ -15,7 +13,7 @@ use Rattle.fields.specs.Answers.{kept_positions, said}
 
 -- the form of an answer by value that says x
 abbrev pub FormOf : paper.Answer → Answer → Type 0
-FormOf (paper.refused n p) a = (r : Refusal) × (v : Part) × (a ≡ Refused r v) × (number_of r ≡ n) × (part_of v ≡ p)
+FormOf (paper.refused n p) a = (v : Part) × (a ≡ Refused n v) × (part_of v ≡ p)
 FormOf (paper.accepted n k) a = a ≡ Accepted n k
 FormOf (paper.unsatisfied r ps) a = (count : ℕ) × (qs : List ℕ) × (a ≡ Unsatisfied r count qs) × (take count qs ≡ ps)
 FormOf (paper.smaller ps) a = (s : Derived) × (a ≡ Smaller s) × (kept_positions s ≡ ps)
@@ -23,7 +21,7 @@ FormOf paper.claimed_none a = a ≡ ClaimedNone
 FormOf paper.claimed_unknown a = a ≡ ClaimedUnknown
 
 own_form : (a : Answer) → FormOf (said a) a
-own_form (Refused r v) = (r, v, refl, refl, refl)
+own_form (Refused n v) = (v, refl, refl)
 own_form (Accepted n k) = refl
 own_form (Unsatisfied r count qs) = (count, qs, refl, refl)
 own_form (Smaller s) = (s, refl, refl)

@@ -16,7 +16,6 @@ use Rattle.fields.specs.declared.answer.Answer.{Answer}
 use Rattle.fields.specs.declared.answer.Answer.TheVariants.{Refused, Accepted, Unsatisfied, Smaller, ClaimedNone, ClaimedUnknown}
 use Rattle.fields.specs.Parts.{text_of, part_of}
 use Rattle.fields.specs.Answers.{said, ZerosBehind, WholeSet, NothingElse}
-use Rattle.texts.proofs.Refusals.{number_decides}
 use Rattle.fields.proofs.Kept.{members_decided}
 use Rattle.fields.proofs.Said.{form_of}
 
@@ -52,7 +51,7 @@ module _ (m n : ℕ) (ps qs : List ℕ) (few : m ≤ most_literals) (few' : n �
 -- ---- the whole answer
 
 pub same_answer : (a b : Answer) → NothingElse a → NothingElse b → said a ≡ said b → a ≡ b
-same_answer (Refused r v) b p q e = let (s, w, is, number, part) = form_of b _ (sym e) in sym (is ∙ ap₂ Refused (number_decides s r number) (part_decides w v part))
+same_answer (Refused n v) b p q e = let (w, is, part) = form_of b _ (sym e) in sym (is ∙ ap (Refused n) (part_decides w v part))
 same_answer (Accepted n k) b p q e = sym (form_of b _ (sym e))
 same_answer (Unsatisfied r count ps) b p q e =
     let (more, qs, is, taken) = form_of b _ (sym e) in

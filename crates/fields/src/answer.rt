@@ -1,10 +1,10 @@
 // What the check answers, by value: each kind with the values that it names, and no other.
 ghost use Rattle.std.specs.Prelude.{◌≡◌};
-ghost use Rattle.fields.specs.Values.{refused};
+ghost use Rattle.fields.specs.Values.{refused, of_fault};
 
 use derived_set::Derived;
 use texts::place::Place;
-use texts::refusal::{Refusal, Refused};
+use texts::refusal::Refused;
 use texts::sizes::MOST_LITERALS;
 
 // The two lent texts.
@@ -24,9 +24,9 @@ pub struct Part {
 // A refusal, a verdict, or what the solver only claimed.
 #[derive(Clone, Copy)]
 pub enum Answer {
-    // its refusal, and the part that holds the fault
+    // its number, and the part that holds the fault
     Refused {
-        refusal: Refusal,
+        number: u8,
         part: Part,
     },
     // how many atoms, and ROUNDS, zero where some rule has several heads
@@ -48,13 +48,19 @@ pub enum Answer {
     ClaimedUnknown,
 }
 
-// The answer to a fault of this text.
-pub fn refused(text: Text, fault: Refused) -> Answer
-    ensures { result ≡ refused text fault }
+// The answer of the refusal with this number, for a place of this text.
+pub fn refused(number: u8, text: Text, place: Place) -> Answer
+    ensures { result ≡ refused number text place }
 {
-    let place = fault.place;
     Answer::Refused {
-        refusal: fault.refusal,
+        number,
         part: Part { text, place },
     }
+}
+
+// The answer to a fault of this text.
+pub fn of_fault(text: Text, fault: Refused) -> Answer
+    ensures { result ≡ of_fault text fault }
+{
+    refused(u8::from(fault.refusal), text, fault.place)
 }

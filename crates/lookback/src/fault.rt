@@ -8,7 +8,7 @@ use std::io::Write;
 use std::rt::Env;
 use texts::parts::part;
 use texts::place::Place;
-use texts::refusal::{Refusal, Refused};
+use texts::refusal::Refused;
 use texts::sizes::{
     MOST_ARGUMENTS, MOST_FACTS, MOST_HEADS, MOST_LITERALS, MOST_NAME, MOST_NUMBER, MOST_RULES,
     MOST_TESTED_FACTS, MOST_TEXT, MOST_VARIABLES,
@@ -20,7 +20,7 @@ fn head(
     err: &mut impl Write,
     file: usize,
     place: Place,
-    refusal: Refusal,
+    refusal: u8,
 ) -> io::Result<()> {
     let mut name = argument_room();
     say(err, argument(rt, file, &mut name).unwrap_or(b""))?;
@@ -29,7 +29,7 @@ fn head(
     say(err, b":")?;
     number(err, place.column as u64)?;
     say(err, b": refusal ")?;
-    number(err, u64::from(u8::from(refusal)))?;
+    number(err, u64::from(refusal))?;
     say(err, b": ")
 }
 
@@ -179,41 +179,34 @@ fn short(err: &mut impl Write) -> io::Result<()> {
     say(err, b"a lent buffer is too short")
 }
 
-// What is wrong with a part of the program.
-fn program_words(err: &mut impl Write, shown: &[u8], refusal: Refusal) -> io::Result<()> {
+// What is wrong with a part of the program. No other number is given for one.
+fn program_words(err: &mut impl Write, shown: &[u8], refusal: u8) -> io::Result<()> {
     match refusal {
-        Refusal::LongText => long_text(err, b"the program"),
-        Refusal::Misplaced => not_of_rules(err, shown),
-        Refusal::LargeNumber => large_number(err, shown),
-        Refusal::OverSize => program_size(err, shown),
-        Refusal::Unbound => unbound(err, shown),
-        Refusal::OutOfRange => out_of_range(err, shown),
-        Refusal::ShortBuffer => short(err),
-        // no part of a program has these
-        Refusal::Repeated | Refusal::Opposed | Refusal::Disagreement | Refusal::Untested => Ok(()),
+        1 => long_text(err, b"the program"),
+        2 => not_of_rules(err, shown),
+        3 => large_number(err, shown),
+        4 => program_size(err, shown),
+        5 => unbound(err, shown),
+        8 => out_of_range(err, shown),
+        9 => short(err),
+        _ => Ok(()),
     }
 }
 
-// What is wrong with a part of the output.
-fn output_words(
-    err: &mut impl Write,
-    output: &[u8],
-    place: Place,
-    refusal: Refusal,
-) -> io::Result<()> {
+// What is wrong with a part of the output. No other number is given for one.
+fn output_words(err: &mut impl Write, output: &[u8], place: Place, refusal: u8) -> io::Result<()> {
     let shown = part(output, place);
     match refusal {
-        Refusal::LongText => long_text(err, b"the output"),
-        Refusal::Misplaced => misplaced::words(err, output, place),
-        Refusal::LargeNumber => large_number(err, shown),
-        Refusal::OverSize => facts_size(err, shown),
-        Refusal::Repeated => repeated(err, shown),
-        Refusal::Opposed => opposite(err, shown),
-        Refusal::ShortBuffer => short(err),
-        Refusal::Disagreement => disagree(err),
-        Refusal::Untested => many_facts(err),
-        // no part of an output has these
-        Refusal::Unbound | Refusal::OutOfRange => Ok(()),
+        1 => long_text(err, b"the output"),
+        2 => misplaced::words(err, output, place),
+        3 => large_number(err, shown),
+        4 => facts_size(err, shown),
+        6 => repeated(err, shown),
+        7 => opposite(err, shown),
+        9 => short(err),
+        10 => disagree(err),
+        12 => many_facts(err),
+        _ => Ok(()),
     }
 }
 
@@ -222,7 +215,7 @@ fn of_program(
     err: &mut impl Write,
     program: &[u8],
     place: Place,
-    refusal: Refusal,
+    refusal: u8,
 ) -> io::Result<()> {
     head(rt, err, PROGRAM, place, refusal)?;
     program_words(err, part(program, place), refusal)?;
@@ -234,7 +227,7 @@ fn of_output(
     err: &mut impl Write,
     output: &[u8],
     place: Place,
-    refusal: Refusal,
+    refusal: u8,
 ) -> io::Result<()> {
     head(rt, err, OUTPUT, place, refusal)?;
     output_words(err, output, place, refusal)?;
@@ -249,14 +242,14 @@ pub fn of_check(
     output: &[u8],
     answer: Answer,
 ) -> io::Result<()> {
-    let Answer::Refused { refusal, part } = answer else {
+    let Answer::Refused { number, part } = answer else {
         return Ok(());
     };
     let place = part.place;
     let text = part.text;
     match text {
-        Text::Program => of_program(rt, err, program, place, refusal),
-        Text::Output => of_output(rt, err, output, place, refusal),
+        Text::Program => of_program(rt, err, program, place, number),
+        Text::Output => of_output(rt, err, output, place, number),
     }
 }
 
@@ -269,6 +262,6 @@ pub fn of_writer(
 ) -> io::Result<()> {
     match written {
         Ok(_) => Ok(()),
-        Err(fault) => of_program(rt, err, program, fault.place, fault.refusal),
+        Err(fault) => of_program(rt, err, program, fault.place, u8::from(fault.refusal)),
     }
 }

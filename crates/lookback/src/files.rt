@@ -90,6 +90,8 @@ pub fn open_argument<R: Files + Env>(
 }
 
 // The same, where `-` names standard input.
+// Not a part of its caller, as `number_argument` is none.
+#[inline(never)]
 pub fn open_output<R: Files + Env>(
     rt: &R,
     err: &mut impl Write,
@@ -144,6 +146,8 @@ fn is_digits(text: &[u8]) -> bool {
 }
 
 // The number that argument i spells, or one that is over its size where it is that large; none where it spells none.
+// Not a part of its caller, whose frame would keep the room for the argument.
+#[inline(never)]
 pub fn number_argument(rt: &impl Env, i: usize) -> Option<u64> {
     let mut room = argument_room();
     let text = argument(rt, i, &mut room)?;

@@ -54,6 +54,8 @@ fn check_files<R: Env + Files + Input>(
     check(rt, out, err, &text[..n], &reported[..m], code)
 }
 
+// Not a part of `run`, as `plain_arguments` is none: the tables of the one would stand in the stack beside those of the other.
+#[inline(never)]
 fn check_arguments<R: Env + Files + Input>(
     rt: &R,
     out: &mut impl Write,
@@ -85,6 +87,7 @@ fn write(
     fault::of_writer(rt, err, program, written)
 }
 
+#[inline(never)]
 fn plain_arguments<R: Env + Files>(
     rt: &R,
     out: &mut impl Write,
@@ -99,17 +102,31 @@ fn plain_arguments<R: Env + Files>(
 }
 
 // What the first argument asks for.
+enum Task {
+    Check,
+    Plain,
+}
+
+// The room for the argument is given back before the task begins.
+#[inline(never)]
+fn asked(rt: &impl Env) -> Option<Task> {
+    let mut room = files::argument_room();
+    match files::argument(rt, WORD, &mut room)? {
+        b"check" => Some(Task::Check),
+        b"plain" => Some(Task::Plain),
+        _ => None,
+    }
+}
+
 fn run<R: Env + Files + Input>(
     rt: &R,
     out: &mut impl Write,
     err: &mut impl Write,
 ) -> io::Result<()> {
-    let mut room = files::argument_room();
-    let word = files::argument(rt, WORD, &mut room).unwrap_or(b"");
-    match word {
-        b"check" => check_arguments(rt, out, err),
-        b"plain" => plain_arguments(rt, out, err),
-        _ => files::usage(err),
+    match asked(rt) {
+        Some(Task::Check) => check_arguments(rt, out, err),
+        Some(Task::Plain) => plain_arguments(rt, out, err),
+        None => files::usage(err),
     }
 }
 

@@ -3,7 +3,7 @@ use derived_set::{Derived, PLACES};
 use fields::answer::Answer;
 use std::io;
 use std::io::Write;
-use texts::refusal::{Refusal, Refused};
+use texts::refusal::Refused;
 
 fn put(out: &mut impl Write, bytes: &[u8]) -> io::Result<()> {
     out.write_all(bytes)
@@ -21,8 +21,8 @@ fn line(out: &mut impl Write, word: &[u8], n: u64) -> io::Result<()> {
     put(out, b"\n")
 }
 
-fn refused(out: &mut impl Write, refusal: Refusal) -> io::Result<()> {
-    line(out, b"REFUSED", u64::from(u8::from(refusal)))
+fn refused(out: &mut impl Write, n: u8) -> io::Result<()> {
+    line(out, b"REFUSED", u64::from(n))
 }
 
 // The positions of a broken instance, behind its rule.
@@ -71,7 +71,7 @@ fn smaller(out: &mut impl Write, kept: Derived) -> io::Result<()> {
 
 pub fn answer(out: &mut impl Write, answer: Answer) -> io::Result<()> {
     match answer {
-        Answer::Refused { refusal, .. } => refused(out, refusal),
+        Answer::Refused { number, .. } => refused(out, number),
         Answer::Accepted { atoms, rounds } => accepted(out, atoms, rounds),
         Answer::Unsatisfied {
             rule,
@@ -98,6 +98,6 @@ pub fn plain(
             }
             Ok(())
         }
-        Err(fault) => refused(out, fault.refusal),
+        Err(fault) => refused(out, u8::from(fault.refusal)),
     }
 }

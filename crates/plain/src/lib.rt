@@ -43,8 +43,11 @@ fn with_names(program: &[u8], names: &mut [u32], buffer: &mut [u8]) -> Result<us
     let mut rules = rule_table();
     let mut literals = literal_table();
     // There is no output; the program stands where its names would be looked for.
-    read_program(program, program, names, &mut rules, &mut literals)?;
-    write_read(program, buffer)
+    // By a `match` and not by `?`: what is handed on of a refusal is then a goal of its own, which a wrong number fails.
+    match read_program(program, program, names, &mut rules, &mut literals) {
+        Ok(_) => write_read(program, buffer),
+        Err(fault) => Err(fault),
+    }
 }
 
 // The length of the plain form of a program, which then stands at the buffer's start; or the refusal of the program, or of a buffer that is

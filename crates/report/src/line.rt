@@ -2,7 +2,7 @@
 ghost use Rattle.std.specs.Prelude.{◌≡◌, ◌+◌};
 ghost use Rattle.texts.specs.Place.{place_from};
 ghost use Rattle.texts.specs.Parts.{bytes_in};
-ghost use Rattle.report.specs.Lines.{has_line, line_end, next_line, line_at, WholeLine};
+ghost use Rattle.report.specs.Lines.{has_line, line_end, next_line, line_at, behind_line, WholeLine};
 
 use lexis::run::{Run, run_end};
 use texts::place::{Place, behind, past};
@@ -55,4 +55,11 @@ pub fn line_at(text: &[u8], at: usize) -> &[u8]
     }
     let end = line_end(text, at);
     &text[at..end]
+}
+
+// Where the line behind the one that starts at `at` begins.
+pub fn behind_line(text: &[u8], at: usize) -> usize
+    ensures { result ≡ behind_line text.now at }
+{
+    next_line(text, line_end(text, at))
 }

@@ -43,22 +43,35 @@ around_then {h = h} w u =
 pub stops_at : {ground : Bool} {X Y : Production ground} {text : Bytes} {at at' : ℕ} {v v' : List Place} {e : Refused} (place : Y.Context → X.Context) → ((h : Y.Context) → from ground text (Y.before h) v' at' ≡ from ground text (X.before (place h)) v at) → Stops X text at v e → Stops Y text at' v' e
 stops_at place before s = record { refuses = s.refuses; answer = λ h. ap (λ y. y.answer) (before h) ∙ s.answer (place h) }
 
+-- .. and either, tree by tree: what the other means need be no function of what the one means
+module _ {ground : Bool} (X Y : Production ground) (over over' : Bool) (text : Bytes) (at at' : ℕ) (v v' : List Place) (later : at' ≤ at) (kept : over ≡ false → over' ≡ false) (tree : X.Tree → Y.Tree) (place : Y.Context → X.Context) (before : (h : Y.Context) → from ground text (Y.before h) v' at' ≡ from ground text (X.before (place h)) v at) (behind : (h : Y.Context) (x : X.Tree) → X.behind (place h) x ≡ Y.behind h (tree x)) (spelling : (x : X.Tree) → met (variables_of text v') (Y.spelling (tree x)) ≡ met (variables_of text v) (X.spelling x)) where
+  pub goes_by : {next : Place} {n : List Place} {S : X.Meant → Type 0} (T : Y.Meant → Type 0) → ((x : X.Tree) → at ≤ next.start → S (X.meant (variables_of text v) x) → T (Y.meant (variables_of text v') (tree x))) → Goes X over text at v next n S → Goes Y over' text at' v' next n T
+  goes_by {next} {n} T stands r =
+      record {
+        forward = omega (arith, later, r.forward);
+        stands = r.stands;
+        kept = kept r.kept;
+        fits = r.fits;
+        tree = tree r.tree;
+        means = stands r.tree r.forward r.means;
+        names = spelling r.tree ∙ r.names;
+        ahead = λ h. before h ∙ r.ahead (place h) ∙ ap (λ y. from ground text y n next.start) (behind h r.tree);
+      }
+
+  pub fills_by : {A : Type 0} (r : Result A Refused) (next : A → Place) (n : A → List Place) (S : A → X.Meant → Type 0) (T : A → Y.Meant → Type 0) → ((a : A) (x : X.Tree) → at ≤ (next a).start → S a (X.meant (variables_of text v) x) → T a (Y.meant (variables_of text v') (tree x))) → Fills X over text at v r next n S → Fills Y over' text at' v' r next n T
+  fills_by (Ok a) next n S T stands f = goes_by (T a) (stands a) f
+  fills_by (Err e) next n S T stands f = stops_at place before f
+
+-- a refusal says nothing of what is behind it
+pub fills_stops : {ground : Bool} (X : Production ground) (over : Bool) (text : Bytes) (at : ℕ) (v : List Place) {A B : Type 0} (e : Refused) (next : A → Place) (n : A → List Place) (S : A → X.Meant → Type 0) (next' : B → Place) (n' : B → List Place) (T : B → X.Meant → Type 0) → Fills X over text at v (Err e) next n S → Fills X over text at v (Err e) next' n' T
+fills_stops X over text at v e next n S next' n' T f = f
+
 module _ {ground : Bool} {X Y : Production ground} {g : X.Meant → Y.Meant} {over over' : Bool} {text : Bytes} {at at' : ℕ} {v v' : List Place} (w : Around X Y g over over' text at at' v v') where
   pub stops_as : {e : Refused} → Stops X text at v e → Stops Y text at' v' e
   stops_as s = stops_at w.place w.before s
 
   pub goes_as : {next : Place} {n : List Place} {S : X.Meant → Type 0} (T : Y.Meant → Type 0) → ((m : X.Meant) → at ≤ next.start → S m → T (g m)) → Goes X over text at v next n S → Goes Y over' text at' v' next n T
-  goes_as {next} {n} T stands r =
-      record {
-        forward = omega (arith, w.later, r.forward);
-        stands = r.stands;
-        kept = w.kept r.kept;
-        fits = r.fits;
-        tree = w.tree r.tree;
-        means = rw (w.meant r.tree) (stands _ r.forward r.means);
-        names = w.spelling r.tree ∙ r.names;
-        ahead = λ h. w.before h ∙ r.ahead (w.place h) ∙ ap (λ y. from ground text y n next.start) (w.behind h r.tree);
-      }
+  goes_as T stands = goes_by X Y over over' text at at' v v' w.later w.kept w.tree w.place w.before w.behind w.spelling T (λ x b s. rw (w.meant x) (stands _ b s))
 
   pub fills_as : {A : Type 0} (r : Result A Refused) (next : A → Place) (n : A → List Place) (S : A → X.Meant → Type 0) (T : A → Y.Meant → Type 0) → ((a : A) (m : X.Meant) → at ≤ (next a).start → S a m → T a (g m)) → Fills X over text at v r next n S → Fills Y over' text at' v' r next n T
   fills_as (Ok a) next n S T stands f = goes_as (T a) (stands a) f

@@ -6,7 +6,6 @@ use fields::answer::{Answer, Part, Text};
 use std::io;
 use std::io::Write;
 use texts::place::TEXT_START;
-use texts::refusal::Refusal;
 
 // A blank and a number of a list.
 fn item(out: &mut impl Write, n: u64) -> io::Result<()> {
@@ -43,9 +42,9 @@ fn members(out: &mut impl Write, kept: Derived) -> io::Result<()> {
     Ok(())
 }
 
-// The refusal, the text's name, and the place in it.
-fn handed_back(out: &mut impl Write, refusal: Refusal, part: Part) -> io::Result<()> {
-    refused(out, refusal)?;
+// The refusal's number, the text's name, and the place in it.
+fn handed_back(out: &mut impl Write, n: u8, part: Part) -> io::Result<()> {
+    refused(out, n)?;
     let at = part.place;
     let text = part.text;
     match text {
@@ -89,7 +88,7 @@ fn smaller(out: &mut impl Write, kept: Derived) -> io::Result<()> {
 // All but the line's end: how many places the answer writes.
 fn values(out: &mut impl Write, answer: Answer, places: &[u16]) -> io::Result<usize> {
     match answer {
-        Answer::Refused { refusal, part } => handed_back(out, refusal, part)?,
+        Answer::Refused { number, part } => handed_back(out, number, part)?,
         Answer::Accepted { atoms, rounds } => {
             accepted(out, atoms, rounds, places)?;
             return Ok(rounds_written(atoms, rounds));

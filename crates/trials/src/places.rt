@@ -20,15 +20,15 @@ impl Pattern for u8 {
 }
 
 pub fn fill<T: Pattern>(buffer: &mut [T]) {
-    for (at, element) in buffer.iter_mut().enumerate() {
-        *element = T::pattern(at);
+    for at in 0..buffer.len() {
+        buffer[at] = T::pattern(at);
     }
 }
 
 // Is every element from one on as it was before the call?
 pub fn is_kept<T: Pattern>(buffer: &[T], from: usize) -> bool {
-    for (at, element) in buffer.iter().enumerate().skip(from) {
-        if *element != T::pattern(at) {
+    for at in from..buffer.len() {
+        if buffer[at] != T::pattern(at) {
             return false;
         }
     }

@@ -22,7 +22,7 @@ fn report(out: &mut impl Write, written: Result<usize, Refused>, buffer: &[u8]) 
             say(out, b"\n")
         }
         Err(fault) => {
-            refused(out, fault.refusal)?;
+            refused(out, u8::from(fault.refusal))?;
             place(out, b"program", fault.place)?;
             ending(out, is_kept(buffer, 0))
         }

@@ -2,7 +2,6 @@
 use std::io;
 use std::io::Write;
 use texts::place::Place;
-use texts::refusal::Refusal;
 
 pub fn say(out: &mut impl Write, words: &[u8]) -> io::Result<()> {
     out.write_all(words)
@@ -34,7 +33,7 @@ pub fn ending(out: &mut impl Write, kept: bool) -> io::Result<()> {
     say(out, b" touched\n")
 }
 
-pub fn refused(out: &mut impl Write, refusal: Refusal) -> io::Result<()> {
+pub fn refused(out: &mut impl Write, n: u8) -> io::Result<()> {
     say(out, b"REFUSED ")?;
-    number(out, u64::from(u8::from(refusal)))
+    number(out, u64::from(n))
 }

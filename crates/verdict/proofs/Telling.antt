@@ -14,11 +14,11 @@ use Rattle.judge.specs.declared.Judgement.TheVariants.{OutOfRange, Unsatisfied, 
 use Rattle.fields.specs.declared.answer.Text.TheVariants.{Program}
 use Rattle.fields.specs.declared.answer.Answer.TheVariants as answers
 use Rattle.fields.specs.declared.answer.Answer.{Answer}
-use Rattle.fields.specs.Values.{refused}
+use Rattle.fields.specs.Values.{of_fault}
 use Rattle.verdict.specs.Told.{FromOne, positions_of, Tells, leaves_range, is_broken, is_accepted, is_minimal, is_smaller}
 
 module _ (text : Bytes) (n : ℕ) (j : Judgement) where
-  pub tells_range : (rule : ℕ) → j ≡ OutOfRange rule → (place : Place) → place ≡ sentence false text rule → (a : Answer) → a ≡ refused Program (record { refusal = refusals.OutOfRange; place = place }) → Tells text n j a
+  pub tells_range : (rule : ℕ) → j ≡ OutOfRange rule → (place : Place) → place ≡ sentence false text rule → (a : Answer) → a ≡ of_fault Program (record { refusal = refusals.OutOfRange; place = place }) → Tells text n j a
   tells_range rule k place e a f = rw (k, f, e) (leaves_range rule)
 
   pub tells_broken : (rule long : ℕ) (positions : List ℕ) → j ≡ Unsatisfied rule long positions → (count : ℕ) → count ≡ positions_of long → (ps : List ℕ) → FromOne count positions ps → Tells text n j (answers.Unsatisfied (rule + 1) count ps)

@@ -10,7 +10,7 @@ use Rattle.judge.specs.declared.Judgement.TheVariants.{OutOfRange, Unsatisfied, 
 use Rattle.fields.specs.declared.answer.Text.TheVariants.{Program}
 use Rattle.fields.specs.declared.answer.Answer.TheVariants as answers
 use Rattle.fields.specs.declared.answer.Answer.{Answer}
-use Rattle.fields.specs.Values.{refused}
+use Rattle.fields.specs.Values.{of_fault}
 
 -- the first n positions from 1, where they were from 0, and zeros behind them
 pub record FromOne (n : ℕ) (ps qs : List ℕ) : Type 0 where
@@ -33,7 +33,7 @@ positions_of long = min long most_literals
 
 -- by the kind of the judgement, beside n atoms
 pub data Tells (text : Bytes) (n : ℕ) : Judgement → Answer → Type 0 where
-  leaves_range : (rule : ℕ) → Tells text n (OutOfRange rule) (refused Program (record { refusal = refusals.OutOfRange; place = sentence false text rule }))
+  leaves_range : (rule : ℕ) → Tells text n (OutOfRange rule) (of_fault Program (record { refusal = refusals.OutOfRange; place = sentence false text rule }))
   is_broken : (rule long : ℕ) (positions ps : List ℕ) → FromOne (positions_of long) positions ps → Tells text n (Unsatisfied rule long positions) (answers.Unsatisfied (rule + 1) (positions_of long) ps)
   is_accepted : (rounds : ℕ) → Tells text n (Accepted rounds) (answers.Accepted n rounds)
   is_minimal : Tells text n Minimal (answers.Accepted n 0)

@@ -5,7 +5,7 @@ ghost use Rattle.std.specs.Prelude.{ℕ, ◌≤◌, ◌<◌, get_or};
 ghost use Rattle.grammar.specs.Sizes.{most_literals};
 ghost use Rattle.verdict.specs.Told.{FromOne, Small, Tells};
 
-use fields::answer::{Answer, Text, refused};
+use fields::answer::{Answer, Text, of_fault};
 use judge::Judgement;
 use rule_places::rule_place;
 use texts::refusal::{Refusal, Refused};
@@ -32,7 +32,7 @@ pub fn verdict(program: &[u8], judgement: Judgement, atoms: usize) -> Answer
         Judgement::OutOfRange { rule } => {
             let refusal = Refusal::OutOfRange;
             let place = rule_place(program, rule);
-            refused(Text::Program, Refused { refusal, place })
+            of_fault(Text::Program, Refused { refusal, place })
         }
         Judgement::Unsatisfied {
             rule,

@@ -27,7 +27,7 @@ several_heads-several-requires c =
 
 pub returns-then-counts-gt-MOST_TESTED_FACTS : goal.returns-then-counts-gt-MOST_TESTED_FACTS
 returns-then-counts-gt-MOST_TESTED_FACTS c =
-    λ line P I s clash of. by_subsets _ _ _ _ _ _ clash P I s line of _ c.in_default.not-Some c.if-places-counts.false _ c.several_heads-several.ensures c.if-several.true (let many : most_tested < c.args.counts.facts = omega (arith, c.if-counts-gt-MOST_TESTED_FACTS.true) in many) _ c.refused-then-counts-gt-MOST_TESTED_FACTS.ensures
+    λ line P I s clash of. by_subsets _ _ _ _ _ _ clash P I s line of _ c.in_default.not-Some c.if-places-counts.false _ c.several_heads-several.ensures c.if-several.true (let many : most_tested < c.args.counts.facts = omega (arith, c.if-counts-gt-MOST_TESTED_FACTS.true) in many) _ c.of_fault-then-counts-gt-MOST_TESTED_FACTS.ensures
 
 pub settled-requires : goal.settled-requires
 settled-requires c =

@@ -8,7 +8,7 @@ pub fill_rules-requires : goal.fill_rules-requires
 fill_rules-requires c = program_readable _ c.args.output.now _ _ c.requires _ (cut_at _ c.bytes_in-within.ensures c.span_from.ensures) (search rules)
 
 pub returns-in-Err : goal.returns-in-Err
-returns-in-Err c = refusal_answer _ _ _ _ _ _ _ _ c.in-Err.ensures _ _ _ c.refused.ensures
+returns-in-Err c = refusal_answer _ _ _ _ _ _ _ _ c.in-Err.ensures _ _ _ c.of_fault.ensures
 
 pub reported-requires : goal.reported-requires
 reported-requires c =

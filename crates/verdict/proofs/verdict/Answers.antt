@@ -7,7 +7,7 @@ use Rattle.verdict.proofs.Telling.{tells_range, tells_broken, tells_accepted, te
 use Rattle.verdict.proofs.verdict.Goals as goal
 
 pub returns-in-OutOfRange : goal.returns-in-OutOfRange
-returns-in-OutOfRange c = tells_range _ _ _ _ c.in-OutOfRange.is _ c.rule_place-place.ensures _ c.refused.ensures
+returns-in-OutOfRange c = tells_range _ _ _ _ c.in-OutOfRange.is _ c.rule_place-place.ensures _ c.of_fault.ensures
 
 pub returns-in-Unsatisfied : goal.returns-in-Unsatisfied
 returns-in-Unsatisfied c = tells_broken _ _ _ _ _ _ c.in-Unsatisfied.is _ c.min-count.ensures _ c.from_one.ensures
